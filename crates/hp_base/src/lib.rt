@@ -1,0 +1,23 @@
+//! Names, literals, lines and valuations: the ground side of a problem, and when a literal is true.
+#![tactic(auto)]
+
+ghost use Rattle.hp_base.specs.Cycle.{NoIdxLeaf};
+ghost use Rattle.hp_base.specs.Leaf.{NoNumLeaf};
+
+mod literal;
+mod proof;
+mod valuation;
+
+pub use literal::{IdxLit, Lit, Name, NumLit, Part, PtrLit, Rel};
+pub use proof::{Share, Step};
+pub use valuation::{NameValue, Valuation};
+
+/// No values make all literals true over which a leaf of multipliers is valid.
+pub fn no_num_leaf()
+    ensures { NoNumLeaf }
+{}
+
+/// No values make all literals true over which a leaf of steps is valid.
+pub fn no_idx_leaf()
+    ensures { NoIdxLeaf }
+{}
