@@ -1,0 +1,4 @@
+pub mod Numbering
+pub mod Prefixes
+pub mod Queries
+pub mod Sources

@@ -1,0 +1,5 @@
+pub mod Bytes
+pub mod Numbered
+pub mod Syntax
+pub mod Parts
+pub mod Reading

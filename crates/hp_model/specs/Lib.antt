@@ -1,0 +1,4 @@
+pub mod Value
+pub mod WellFormed
+pub mod Satisfies
+pub mod Written

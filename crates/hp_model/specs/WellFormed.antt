@@ -1,0 +1,37 @@
+-- A structure that fits a problem: it has exactly the constants of the problem, in the order of their declarations, with
+-- values of their sorts. No problem declares functions so far, so a structure that fits has no tables.
+use Rattle.std.specs.Prelude.{◌≡◌, ℕ, ◌≤◌, List, [], ◌∷◌, Bool, true, ◌&&◌, pos, IsTrue}
+use Rattle.hp_math.specs.Rational.{ℚ, whole, is_whole, lt_ℚ, le_ℚ}
+use Rattle.hp_ast.specs.declared.problem.Sort.{Sort}
+use Rattle.hp_ast.specs.declared.problem.Sort.TheVariants.{Num, Idx, Ptr}
+use Rattle.hp_ast.specs.declared.problem.Decl.{Decl}
+use Rattle.hp_ast.specs.declared.problem.Decl.TheVariants.{Const, Fun}
+use Rattle.hp_ast.specs.declared.problem.Problem.{Problem}
+use Rattle.hp_model.specs.declared.structure.ConstValue.{ConstValue}
+use Rattle.hp_model.specs.declared.structure.Structure.{Structure}
+use Rattle.hp_model.specs.Value.{Name}
+
+pub record Declared : Type 0 where
+  pub name : Name
+  pub sort : Sort
+
+abbrev pub constants : List Decl → List Declared
+constants [] = []
+constants (Const name sort ∷ ds) = record { name = name; sort = sort } ∷ constants ds
+constants (Fun name args result level ∷ ds) = constants ds
+
+-- a value of the sort, in a universe of so many pointers: any fraction, a whole number, a whole number below the size
+abbrev pub is_of_sort : ℕ → Sort → ℚ → Bool
+is_of_sort size Num v = true
+is_of_sort size Idx v = is_whole v
+is_of_sort size Ptr v = is_whole v && le_ℚ (whole (pos 0)) v && lt_ℚ v (whole (pos size))
+
+abbrev pub ConstantsFit : ℕ → List Declared → List ConstValue → Type 0
+ConstantsFit size [] [] = Unit {0}
+ConstantsFit size (d ∷ ds) (c ∷ cs) = (c.name ≡ d.name) × IsTrue (is_of_sort size d.sort c.value) × ConstantsFit size ds cs
+ConstantsFit size _ _ = ⊥
+
+pub record WellFormed (s : Structure) (p : Problem) : Type 0 where
+  pub universe : 1 ≤ s.universe
+  pub constants_fit : ConstantsFit s.universe (constants p.decls) s.consts
+  pub tables : s.tables ≡ []

@@ -1,0 +1,8 @@
+//! Structures of finite piecewise tables, the truth of clauses in them, and their text.
+#![tactic(auto)]
+
+mod structure;
+mod writing;
+
+pub use structure::{ConstValue, Row, Structure, Table};
+pub use writing::write_structure;
