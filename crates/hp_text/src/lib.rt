@@ -1,0 +1,7 @@
+//! The words of a text: its tokens with their places, the value of its numerals, and pieces of text put one behind another.
+//! What the tokens of a text are is said on its bytes alone, in `specs/`. What they mean is left to the readers above.
+#![tactic(auto)]
+
+mod put;
+
+pub use put::{put_text, put_whole};
