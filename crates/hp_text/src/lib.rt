@@ -2,6 +2,14 @@
 //! What the tokens of a text are is said on its bytes alone, in `specs/`. What they mean is left to the readers above.
 #![tactic(auto)]
 
+mod bytes;
+mod cursor;
+mod digits;
 mod put;
+mod token;
+mod words;
 
+pub use cursor::Cursor;
+pub use digits::numeral;
 pub use put::{put_text, put_whole};
+pub use token::{Kind, Token, TokenErr};
