@@ -1,7 +1,7 @@
 //! The cursor, which goes over a text from token to token.
 //! What the next token is, `next_from` says on the bytes and a place.
 
-ghost use Rattle.std.specs.Prelude.{◌≡◌, ◌≢◌, ◌+◌, ◌<◌, ◌≤◌, drop, length, IfOk, OnErr, MatchResult, slice_range};
+ghost use Rattle.std.specs.Prelude.{◌≡◌, ◌+◌, ◌≤◌, length, IfOk, IfErr};
 
 use crate::bytes::{digit_count, is_blank_byte, is_digit_byte, is_letter_byte, name_length};
 use crate::token::{Kind, Token, TokenErr};
@@ -29,8 +29,9 @@ impl<'a> Model for Cursor<'a> {
 }
 
 impl<'a> Cursor<'a> {
-    ghost use Rattle.std.specs.Prelude.{◌≡◌};
+    ghost use Rattle.std.specs.Prelude.{◌≡◌, IfOk, IfErr};
     ghost use Rattle.hp_text.specs.Tokens.{next_from, place_after};
+    ghost use Rattle.hp_text.specs.Placed.{IsPlaced, IsFaultPlaced};
 
     /// A cursor at the beginning of a text.
     pub fn new(bytes: &'a [u8]) -> Cursor<'a>
@@ -49,17 +50,31 @@ impl<'a> Cursor<'a> {
         ensures token { result ≡ next_from self.old.bytes self.old.place }
         ensures place { self.new.place ≡ place_after self.old.place result }
         ensures bytes { self.new.bytes ≡ self.old.bytes }
+        ensures placed { IfOk result (IsPlaced self.old.bytes self.old.place) }
+        ensures fault { IfErr result (IsFaultPlaced self.old.bytes self.old.place) }
     {
-        let (_, rest) = self.bytes.split_at(self.at);
-        let start = self.at + gap_length(rest);
-        let (_, tail) = self.bytes.split_at(start);
-        let token = front_token(start, tail)?;
+        let token = token_from(self.bytes, self.at)?;
         self.at = token.end;
         Ok(token)
     }
 }
 
-ghost use Rattle.hp_text.specs.Tokens.{gap, front, token as make, numeral_of};
+ghost use Rattle.hp_text.specs.Tokens.{next_from, gap, front, token as make, numeral_of};
+ghost use Rattle.hp_text.specs.Placed.{IsPlaced, IsFaultPlaced};
+
+/// The next token of a text from a place on.
+#[tactic(auto, using(crate::proofs::Fronts::next_placed, crate::proofs::Fronts::fault_placed))]
+fn token_from(bytes: &[u8], at: usize) -> Result<Token, TokenErr>
+    requires { at ≤ length bytes.now }
+    ensures token { result ≡ next_from bytes.now at }
+    ensures placed { IfOk result (IsPlaced bytes.now at) }
+    ensures fault { IfErr result (IsFaultPlaced bytes.now at) }
+{
+    let (_, rest) = bytes.split_at(at);
+    let start = at + gap_length(rest);
+    let (_, tail) = bytes.split_at(start);
+    front_token(start, tail)
+}
 
 /// How many bytes of blanks and comments stand at the front.
 fn gap_length(bytes: &[u8]) -> usize

@@ -1,7 +1,7 @@
 //! The reserved words and the signs.
 
 ghost use Rattle.std.specs.Prelude.{◌≡◌, ◌≤◌, length, IfSome};
-ghost use Rattle.hp_text.specs.Tokens.{word_kind, sign_of};
+ghost use Rattle.hp_text.specs.Words.{word_kind, sign_of};
 
 use crate::token::Kind;
 
