@@ -25,6 +25,11 @@ pub record Lexes (bytes : List ℕ) (tokens : List Token) (last : Result Token T
   pub next : next_from bytes place ≡ last
   pub is_last : IsLast last
 
+-- every text has one list of tokens, and one end of it
+pub record HasOneLexing (bytes : List ℕ) : Type 0 where
+  pub some : (tokens : List Token) × (last : Result Token TokenErr) × Lexes bytes tokens last
+  pub one : (ts us : List Token) (l m : Result Token TokenErr) → Lexes bytes ts l → Lexes bytes us m → (ts ≡ us) × (l ≡ m)
+
 -- what a token says, wherever it stands: a reserved word, a sign or the end; a name by its bytes; a numeral by its value
 pub data Said : Type 0 where
   word : Kind → Said

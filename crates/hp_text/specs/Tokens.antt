@@ -51,8 +51,3 @@ start_from bytes at = at + gap (drop at bytes)
 -- the next token of the text, from a place on
 abbrev pub next_from : List ℕ → ℕ → Result Token TokenErr
 next_from bytes at = let start = start_from bytes at in front start (drop start bytes)
-
--- where a reading stands after the next token or its error
-abbrev pub place_after : ℕ → Result Token TokenErr → ℕ
-place_after at (Ok t) = t.end
-place_after at (Err e) = at

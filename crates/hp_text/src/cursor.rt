@@ -29,8 +29,8 @@ impl<'a> Model for Cursor<'a> {
 }
 
 impl<'a> Cursor<'a> {
-    ghost use Rattle.std.specs.Prelude.{◌≡◌, IfOk, IfErr};
-    ghost use Rattle.hp_text.specs.Tokens.{next_from, place_after};
+    ghost use Rattle.std.specs.Prelude.{◌≡◌, IfOk, IfErr, OnErr};
+    ghost use Rattle.hp_text.specs.Tokens.{next_from};
     ghost use Rattle.hp_text.specs.Placed.{IsPlaced, IsFaultPlaced};
 
     /// A cursor at the beginning of a text.
@@ -48,8 +48,9 @@ impl<'a> Cursor<'a> {
     /// stand there. After an error the cursor is unchanged.
     pub fn next(&mut self) -> Result<Token, TokenErr>
         ensures token { result ≡ next_from self.old.bytes self.old.place }
-        ensures place { self.new.place ≡ place_after self.old.place result }
+        ensures moved { IfOk result (λ token. self.new.place ≡ token.end) }
         ensures bytes { self.new.bytes ≡ self.old.bytes }
+        ensures unchanged { OnErr result (self.new ≡ self.old) }
         ensures placed { IfOk result (IsPlaced self.old.bytes self.old.place) }
         ensures fault { IfErr result (IsFaultPlaced self.old.bytes self.old.place) }
     {

@@ -5,11 +5,13 @@
 mod bytes;
 mod cursor;
 mod digits;
+mod laws;
 mod put;
 mod token;
 mod words;
 
 pub use cursor::Cursor;
 pub use digits::numeral;
+pub use laws::one_list_of_tokens;
 pub use put::{put_text, put_whole};
 pub use token::{Kind, Token, TokenErr};
