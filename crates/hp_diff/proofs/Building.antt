@@ -4,6 +4,8 @@ use Rattle.std.specs.Prelude.{slice_get}
 use Rattle.std.proofs.lemmas.Int.{ints}
 use Rattle.std.proofs.lemmas.List.{take_more}
 use Rattle.std.proofs.lemmas.List.Elements.{All-push, All-weaker, All-append, All-nil, All-cons, Contains-append_left, Contains-push}
+use Rattle.std.specs.List.Sorted.{IsPermutation}
+use Rattle.std.proofs.lemmas.List.Sorted.{All-permutation, Contains-permutation}
 use Rattle.std.proofs.lemmas.Option.{slice_get_within, get_or_from_slice_get}
 use Rattle.std.specs.List.{All, Contains}
 use Rattle.hp_base.specs.declared.literal.IdxLit.{IdxLit}
@@ -85,4 +87,17 @@ edges_fit names rows edges small a = record {
         low = subst (λ (b : ℤ). pos 0 ≤ℤ (b +ℤ pos (10 ^ 25))) (sym p.over.bound) bound.low;
         high = subst (λ (b : ℤ). b ≤ℤ pos (10 ^ 25)) (sym p.over.bound) bound.high;
       });
+}
+
+-- ---- the same edges in another order
+moved : (names : List ℕ) (edges sorted : List Edge) (row : IdxLit) → IsPermutation edges sorted → HasEdge names edges row → HasEdge names sorted row
+moved names edges sorted row p h = (h.0, Contains-permutation edges sorted h.0 p h.1, h.2)
+
+pub in_any_order : (names : List ℕ) (rows : List IdxLit) (edges sorted : List Edge) → IsPermutation edges sorted → AreEdges names rows edges → AreEdges names rows sorted
+in_any_order names rows edges sorted p a = record {
+  each = All-permutation (IsEdgeOf names rows) edges sorted p a.each;
+  cover = All-weaker (IsCovered names edges) (IsCovered names sorted) (λ row c. record {
+    forward = moved names edges sorted row p c.forward;
+    backward = λ x. moved names edges sorted (turned row false) p (c.backward x);
+  }) rows a.cover;
 }

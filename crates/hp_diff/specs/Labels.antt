@@ -1,5 +1,5 @@
 -- Labels: what walks along edges give the nodes.
-use Rattle.std.specs.Prelude.{◌≡◌, ◌⊎◌, Bool, false, ℕ, ◌+◌, ◌-◌, ◌*◌, ◌^◌, ◌<◌, ◌≤◌, ℤ, pos, ◌+ℤ◌, ◌≤ℤ◌, ◌<ℤ◌, List, ◌∷◌, [], ◌++◌, length, slice_set}
+use Rattle.std.specs.Prelude.{◌≡◌, ◌⊎◌, Bool, true, false, ℕ, ◌+◌, ◌-◌, ◌*◌, ◌^◌, ◌<◌, ◌≤◌, ℤ, pos, ◌+ℤ◌, ◌≤ℤ◌, ◌<ℤ◌, List, ◌∷◌, [], ◌++◌, length, slice_set}
 use Rattle.std.proofs.Common.{get_or}
 use Rattle.hp_diff.specs.declared.edges.Edge.{Edge}
 use Rattle.hp_diff.specs.declared.labels.Label.{Label}
@@ -99,17 +99,23 @@ pub record AreRoots (nodes : ℕ) (s : Labels) : Type 0 where
   pub label : (x : ℕ) → x < nodes → label_at s.made x ≡ root x
   pub own : (x : ℕ) → x < nodes → get_or s.latest x 0 ≡ x
 
--- Before the edge `at` of a round: each edge holds or starts deep, one deeper where it was relaxed in this round,
+-- The edge of a turn of a round: edges in order, or from the last to the first.
+abbrev pub turn_at : ℕ → Bool → ℕ → ℕ
+turn_at count false k = k
+turn_at count true k = count - 1 - k
+
+-- Before the turn `at` of a round: each edge holds or starts deep, one deeper where it was relaxed in this round,
 -- and where nothing was changed those hold.
-pub record IsRound (edges : List Edge) (nodes : ℕ) (s : Labels) (at depth : ℕ) (changed : Bool) : Type 0 where
+pub record IsRound (edges : List Edge) (nodes : ℕ) (s : Labels) (backward : Bool) (at depth : ℕ) (changed : Bool) : Type 0 where
   pub labels : AreLabels edges nodes s.made
   pub latest : AreLatest nodes s
   pub shallow : AreShallow nodes s.made
-  pub done : (k : ℕ) → k < at → HoldsOrDeep edges s (depth + 1) k
+  pub done : (k : ℕ) → k < at → HoldsOrDeep edges s (depth + 1) (turn_at (length edges) backward k)
   pub all : (k : ℕ) → k < length edges → HoldsOrDeep edges s depth k
-  pub quiet : changed ≡ false → (k : ℕ) → k < at → Holds edges s k
+  pub quiet : changed ≡ false → (k : ℕ) → k < at → Holds edges s (turn_at (length edges) backward k)
 
+-- what a round over all edges found
 abbrev pub Found : List Edge → ℕ → Labels → ℕ → Round → Type 0
 Found edges nodes s depth rounds.Settled = AreShallow nodes s.made × ((k : ℕ) → k < length edges → Holds edges s k)
-Found edges nodes s depth rounds.Changed = IsRound edges nodes s 0 (depth + 1) false
+Found edges nodes s depth rounds.Changed = IsRound edges nodes s false 0 (depth + 1) false
 Found edges nodes s depth rounds.Deep = (0 < length s.made) × (nodes ≤ (label_at s.made (length s.made - 1)).depth)

@@ -8,6 +8,7 @@ ghost use Rattle.hp_diff.specs.Settled.{AreValues, value_at};
 
 use crate::edges::{Edge, edges_of};
 use crate::names::distinct_names;
+use crate::order::in_order;
 use crate::outcome::{Settled, settle};
 use hp_base::{IdxLit, Name, NameValue, Step};
 use hp_num::{Frac, List};
@@ -116,6 +117,6 @@ pub fn decide(alloc: Global, rows: &[IdxLit]) -> Result<DiffAnswer, AllocError>
     ensures { IfOk result (λ answer. IsDiffAnswer rows.now answer) }
 {
     let names = distinct_names(alloc, rows)?;
-    let edges = edges_of(alloc, &names, rows)?;
+    let edges = in_order(alloc, names.len() + 1, edges_of(alloc, &names, rows)?)?;
     answer_of(alloc, rows, &names, &edges)
 }

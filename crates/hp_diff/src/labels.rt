@@ -1,6 +1,6 @@
 ghost use Rattle.std.specs.Prelude.{◌+ℤ◌, ◌<ℤ◌, ◌≤ℤ◌, FitsSigned, false, ◌≡◌, ◌≤◌, ◌<◌, ◌+◌, ◌^◌, ◌++◌, ◌∷◌, [], IfOk, IfSome, IfNone, OnErr, OnOk, length, slice_set};
 ghost use Rattle.std.specs.Int.{w128};
-ghost use Rattle.hp_diff.specs.Labels.{EdgesFit, AreLabels, AreLatest, AreRoots, AreShallow, Found, Holds, IsNext, IsRound, Turn, now_at, with_label};
+ghost use Rattle.hp_diff.specs.Labels.{EdgesFit, AreLabels, AreLatest, AreRoots, AreShallow, Found, Holds, IsNext, IsRound, Turn, now_at, turn_at, with_label};
 
 use crate::edges::Edge;
 use hp_num::List;
@@ -144,7 +144,16 @@ pub fn roots(alloc: Global, nodes: usize) -> Result<Labels, AllocError>
     Ok(Labels { made, latest })
 }
 
-/// Relaxes each edge once.
+/// The edge of a turn: edges in order, or from the last to the first.
+fn edge_of_turn(edges: usize, backward: bool, turn: usize) -> usize
+    requires { turn < edges }
+    ensures within { result < edges }
+    ensures turn { result ≡ turn_at edges backward turn }
+{
+    if backward { edges - 1 - turn } else { turn }
+}
+
+/// Relaxes each edge once, in turns from the first to the last and back, which is Yen's improvement.
 pub fn relax_all(
     labels: &mut Labels,
     nodes: usize,
@@ -153,13 +162,15 @@ pub fn relax_all(
 ) -> Result<Round, AllocError>
     requires nodes { nodes ≤ 200001 }
     requires edges { EdgesFit nodes edges.now }
-    requires before { IsRound edges.now nodes labels.old 0 depth false }
+    requires before { IsRound edges.now nodes labels.old false 0 depth false }
     ensures labels { OnOk result (AreLabels edges.now nodes labels.new.made) }
     ensures latest { OnOk result (AreLatest nodes labels.new) }
     ensures found { IfOk result (λ found. Found edges.now nodes labels.new depth found) }
 {
+    let backward = depth % 2 == 1;
     let mut changed = false;
-    for at in 0..edges.len() {
+    for turn in 0..edges.len() {
+        let at = edge_of_turn(edges.len(), backward, turn);
         match relax(labels, nodes, edges, at)? {
             Relaxed::Kept => {}
             Relaxed::Made => changed = true,

@@ -9,6 +9,7 @@ mod cycles;
 mod edges;
 mod labels;
 mod names;
+mod order;
 mod outcome;
 
 pub use answer::{DiffAnswer, decide};
