@@ -1,3 +1,4 @@
 pub mod Truth
 pub mod Cycle
 pub mod Leaf
+pub mod Names
