@@ -2,3 +2,4 @@ pub mod Truth
 pub mod Cycle
 pub mod Leaf
 pub mod Names
+pub mod Sorts
