@@ -59,19 +59,19 @@ rest_less n (suc j) t u (l ∷ ls) same free taken high =
     rw (tn, r) (swap (cond (u n) 1 (suc (length l.lits))) (suc (length (lits_of (slice_get ls j)))) (rest_of (suc n) u ls))
 
 -- ---- the lines on a path
-pub on : Place → ℕ → Bool
+unfoldable pub on : Place → ℕ → Bool
 on [] k = false
 on (c ∷ cs) k = nat_eq c.line k || on cs k
 
 -- with one line more
-below : Place → ℕ → ℕ → Bool
+unfoldable pub below : Place → ℕ → ℕ → Bool
 below p n k = on p k || nat_eq n k
 
-or_false : (a b : Bool) → b ≡ false → a ≡ (a || b)
+pub or_false : (a b : Bool) → b ≡ false → a ≡ (a || b)
 or_false true b h = refl
 or_false false b h = sym h
 
-or_true : (a b : Bool) → b ≡ true → (a || b) ≡ true
+pub or_true : (a b : Bool) → b ≡ true → (a || b) ≡ true
 or_true true b h = refl
 or_true false b h = h
 
@@ -83,12 +83,12 @@ or_comm_false : (a : Bool) → (a || false) ≡ a
 or_comm_false true = refl
 or_comm_false false = refl
 
-on-push : (p : Place) (c : Choice) (k : ℕ) → on (p ++ c ∷ []) k ≡ below p c.line k
+pub on-push : (p : Place) (c : Choice) (k : ℕ) → on (p ++ c ∷ []) k ≡ below p c.line k
 unfolding on below
 on-push [] c k = or_comm_false (nat_eq c.line k)
 on-push (d ∷ p) c k = ap (λ b. nat_eq d.line k || b) (on-push p c k) ∙ or_assoc (nat_eq d.line k) (on p k) (nat_eq c.line k)
 
-not_eq : (n k : ℕ) → k ≢ n → nat_eq n k ≡ false
+pub not_eq : (n k : ℕ) → k ≢ n → nat_eq n k ≡ false
 not_eq n k h = (elim (nat_eq n k) as (λ b. nat_eq n k ≡ b → nat_eq n k ≡ false) [ true ↦ λ t. absurd (h (sym (eqb-true n k t))) | false ↦ λ t. t ]) refl
 
 pub weight : List Line → Place → ℕ
@@ -127,7 +127,7 @@ abbrev pub AllIn : List Line → List Place → Type 0
 AllIn lines [] = Unit {0}
 AllIn lines (p ∷ ps) = AreIn lines p × AllIn lines ps
 
-in-push : (lines : List Line) (p : Place) (c : Choice) → AreIn lines p → InRange lines c → AreIn lines (p ++ c ∷ [])
+pub in-push : (lines : List Line) (p : Place) (c : Choice) → AreIn lines p → InRange lines c → AreIn lines (p ++ c ∷ [])
 in-push lines [] c h k = (k, tt)
 in-push lines (d ∷ p) c h k = (h.0, in-push lines p c h.1 k)
 
@@ -157,7 +157,7 @@ chosen_true v lines (c ∷ cs) n i all h =
     ]) refl h
 
 -- no line is split twice
-split_once : (sorts : List Sort) (lines : List Line) (p : Place) (n : ℕ) → AreIn lines p → IsOpenAt sorts lines p n → on p n ≡ false
+pub split_once : (sorts : List Sort) (lines : List Line) (p : Place) (n : ℕ) → AreIn lines p → IsOpenAt sorts lines p n → on p n ≡ false
 split_once sorts lines p n i h =
     (elim (on p n) as (λ b. on p n ≡ b → b ≡ false) [ true ↦ λ t. absurd (h.fails (chosen_true h.values lines p n i h.holds t)) | false ↦ λ t. refl ]) refl
 

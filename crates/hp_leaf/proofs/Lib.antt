@@ -4,5 +4,6 @@ pub mod Joins
 pub mod Closing
 pub mod Counting
 pub mod Honest
+pub mod Lengths
 pub mod Nested
 pub mod Singles
