@@ -1,3 +1,5 @@
 pub mod Truth
 pub mod Cycle
 pub mod Leaf
+pub mod Names
+pub mod Sorts

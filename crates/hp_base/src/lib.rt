@@ -4,11 +4,15 @@
 ghost use Rattle.hp_base.specs.Cycle.{NoIdxLeaf};
 ghost use Rattle.hp_base.specs.Leaf.{NoNumLeaf};
 
+mod line;
 mod literal;
+mod names;
 mod proof;
 mod valuation;
 
+pub use line::{Arg, Body, Def, Lin, LinPart, Line, Origin};
 pub use literal::{IdxLit, Lit, Name, NumLit, Part, PtrLit, Rel};
+pub use names::{Constant, Ground, Names, Signature};
 pub use proof::{Share, Step};
 pub use valuation::{NameValue, Valuation};
 

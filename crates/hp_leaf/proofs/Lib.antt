@@ -1,0 +1,9 @@
+pub mod Leaves
+pub mod Cycles
+pub mod Joins
+pub mod Closing
+pub mod Counting
+pub mod Honest
+pub mod Lengths
+pub mod Nested
+pub mod Singles

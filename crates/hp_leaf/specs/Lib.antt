@@ -1,0 +1,7 @@
+pub mod Pointers
+pub mod Leaf
+pub mod Check
+pub mod Tree
+pub mod Path
+pub mod Nested
+pub mod Laws

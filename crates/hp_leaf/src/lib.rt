@@ -1,0 +1,29 @@
+//! Proofs of leaves, their check, trees, and what a closed tree and a tree that was given up say.
+#![tactic(auto)]
+
+ghost use Rattle.hp_leaf.specs.Laws.{ClosedTreesRefute, SpentTreesAreSmall};
+ghost use Rattle.hp_leaf.specs.Nested.{ClosedIsNested};
+
+mod cycle;
+mod leaf;
+mod pointer;
+mod side;
+mod tree;
+
+pub use leaf::check_leaf;
+pub use tree::{Choice, LeafProof, Node};
+
+/// No values make all lines of a closed tree true.
+pub fn closed_trees_refute()
+    ensures { ClosedTreesRefute }
+{}
+
+/// An honest tree with an open place has fewer nodes than the product of one plus the literal counts.
+pub fn spent_trees_are_small()
+    ensures { SpentTreesAreSmall }
+{}
+
+/// A closed reading is a tree whose splits have a tree for each literal, and nothing after it.
+pub fn closed_is_nested()
+    ensures { ClosedIsNested }
+{}
