@@ -1,0 +1,7 @@
+use Rattle.std.proofs.Common.{◌≡◌, take, ◌++◌}
+use Rattle.std.specs.List.{join_by}
+use Rattle.hp_ast.specs.Printing.{atom_text}
+use Rattle.hp_ast.proofs.printing.put_atoms.Given as goal
+
+abbrev pub invariant-loop-i : goal.invariant-loop-i
+invariant-loop-i l = l.out ≡ l.fn.out ++ join_by atom_text l.separator (take l.i l.atoms)
