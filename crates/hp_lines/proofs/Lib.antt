@@ -2,3 +2,5 @@ pub mod Numbering
 pub mod Prefixes
 pub mod Queries
 pub mod Sources
+pub mod Grounding
+pub mod Numbers

@@ -1,9 +1,20 @@
 -- What reading a query and a whole text answers.
-use Rattle.std.specs.Prelude.{◌≡◌, ℕ, List, [], ◌∷◌, ◌++◌}
+use Rattle.std.specs.Prelude.{◌≡◌, ℕ, ◌≤◌, List, [], ◌∷◌, map, length}
 use Rattle.hp_lines.specs.declared.reading.QueryAt.{QueryAt}
 use Rattle.hp_lines.specs.declared.reading.QueryAt.TheVariants as query
 use Rattle.hp_lines.specs.declared.reading.SourceRead.{SourceRead}
 use Rattle.hp_lines.specs.declared.reading.SourceRead.TheVariants.{Read, Refused, Memory}
+use Rattle.hp_lines.specs.declared.ground.LineRead.{LineRead}
+use Rattle.hp_lines.specs.declared.ground.LineRead.TheVariants as line
+use Rattle.hp_lines.specs.declared.ground.LinesRead.{LinesRead}
+use Rattle.hp_lines.specs.declared.ground.LinesRead.TheVariants as lines
+use Rattle.hp_lines.specs.declared.ground.NamesRead.{NamesRead}
+use Rattle.hp_lines.specs.declared.ground.NamesRead.TheVariants as names
+use Rattle.hp_lines.specs.declared.ground.GroundRead.{GroundRead}
+use Rattle.hp_lines.specs.declared.ground.GroundRead.TheVariants as ground
+use Rattle.hp_base.specs.declared.line.Origin.TheVariants.{Ground as FromClause}
+use Rattle.hp_lines.specs.Lines.{AreLines, AreLits, IsGroundOf, index_constant}
+use Rattle.hp_lines.specs.Problem.{AreAllDeclared, AreDeclared, AreDistinct, IsInScope}
 use Rattle.hp_lines.specs.declared.syntax.Comparison.{Comparison}
 use Rattle.hp_lines.specs.declared.syntax.Source.{Source}
 use Rattle.hp_lines.specs.declared.reading.ConstsRead.{ConstsRead}
@@ -59,3 +70,24 @@ abbrev pub SourceOnly : SourceRead → Source → Type 0
 SourceOnly (Read s) all = s ≡ all
 SourceOnly Refused all = ⊥
 SourceOnly Memory all = Unit {0}
+
+-- ---- the ground problem
+abbrev pub LineFound : List (List ℕ) → ℕ → List Comparison → LineRead → Type 0
+LineFound names clause q (line.Read l) = (l.origin ≡ FromClause clause) × AreLits names q l.lits
+LineFound names clause q line.Refused = AreDeclared names q → ⊥
+LineFound names clause q line.Memory = Unit {0}
+
+abbrev pub LinesFound : List (List ℕ) → List (List Comparison) → LinesRead → Type 0
+LinesFound names qs (lines.Read ls) = AreLines names 1 qs ls
+LinesFound names qs lines.Refused = AreAllDeclared names qs → ⊥
+LinesFound names qs lines.Memory = Unit {0}
+
+abbrev pub NamesFound : List (List ℕ) → NamesRead → Type 0
+NamesFound consts (names.Read index found) = (index ≡ consts) × AreDistinct consts × (found.constants ≡ map index_constant consts) × (found.definitions ≡ [])
+NamesFound consts names.Refused = AreDistinct consts → ⊥
+NamesFound consts names.Memory = Unit {0}
+
+abbrev pub GroundFound : Source → GroundRead → Type 0
+GroundFound s (ground.Read g) = IsGroundOf s g × AreDistinct s.consts × (length s.consts ≤ 4000) × (length s.queries ≤ 2000)
+GroundFound s ground.Refused = IsInScope s → ⊥
+GroundFound s ground.Memory = Unit {0}

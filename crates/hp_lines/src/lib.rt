@@ -2,10 +2,13 @@
 #![tactic(auto)]
 
 mod bytes;
+mod ground;
 mod names;
 mod parts;
 mod reading;
 mod syntax;
 
+pub use ground::{GroundRead, ground_of};
 pub use names::NameIndex;
+pub use reading::{SourceRead, read_source};
 pub use syntax::{Comparison, Operand, Source};

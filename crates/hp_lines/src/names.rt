@@ -1,8 +1,8 @@
 //! Names in the order of their first occurrence, found again by a hash.
 
-ghost use Rattle.std.specs.Prelude.{◌≡◌, ◌<◌, [], IfOk, IfSome, OnErr, length, position};
+ghost use Rattle.std.specs.Prelude.{◌≡◌, ◌<◌, [], IfOk, IfSome, OnErr, is_some, length, position};
 ghost use Rattle.std.specs.Str.{bytes_eq};
-ghost use Rattle.hp_lines.specs.Numbered.{Added};
+ghost use Rattle.hp_lines.specs.Numbered.{Added, is_among};
 
 use indexmap::IndexSet;
 use std::alloc::{AllocError, Global};
@@ -45,6 +45,7 @@ impl NameIndex {
     /// The number of a name, or `None` where it is not there.
     pub fn position(&self, name: &[u8]) -> Option<usize>
         ensures position { result ≡ position (bytes_eq name.now) self.now }
+        ensures found { is_some result ≡ is_among name.now self.now }
         ensures within { IfSome result (λ number. number < length self.now) }
     {
         self.set.get_index_of(name)
