@@ -44,7 +44,7 @@ fn put(labels: &mut Labels, label: Label) -> Result<(), AllocError>
 }
 
 /// The label that a node has now.
-fn latest_label(labels: &Labels, nodes: usize, node: usize) -> Label
+pub fn latest_label(labels: &Labels, nodes: usize, node: usize) -> Label
     requires latest { AreLatest nodes labels.now }
     requires node { node < nodes }
     ensures { result ≡ now_at labels.now node }

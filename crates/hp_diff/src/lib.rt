@@ -11,5 +11,6 @@ mod labels;
 mod names;
 mod order;
 mod outcome;
+mod parents;
 
 pub use answer::{DiffAnswer, decide};
