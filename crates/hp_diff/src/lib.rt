@@ -14,3 +14,6 @@ mod outcome;
 mod parents;
 
 pub use answer::{DiffAnswer, decide};
+
+#[cfg(test)]
+mod tests;
