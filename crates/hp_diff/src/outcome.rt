@@ -1,3 +1,4 @@
+//! Rounds of relaxations until all edges hold or a cycle shows, and the values that the nodes have then.
 ghost use Rattle.std.specs.Prelude.{◌≡◌, ◌≤◌, ◌<◌, IfOk, length};
 ghost use Rattle.hp_diff.specs.Labels.{EdgesFit, AreLatest};
 ghost use Rattle.hp_diff.specs.Settled.{AreValuesOf, IsSettled};

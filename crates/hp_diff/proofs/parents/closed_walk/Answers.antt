@@ -1,6 +1,6 @@
-use Rattle.std.proofs.Common.{FitsSigned, rules, ◌∙◌, ◌<ℤ◌, pos, arith}
+use Rattle.std.proofs.Common.{FitsSigned, rules, ◌∙◌, ◌<ℤ◌, pos}
 use Rattle.std.specs.Int.{w128}
-use Rattle.std.proofs.lemmas.Int.{to_z-of_z, ints}
+use Rattle.std.proofs.lemmas.Int.{to_z-of_z}
 use Rattle.hp_diff.proofs.Shown.{next_followed, closed}
 use Rattle.hp_diff.proofs.parents.closed_walk.Goals as goal
 
