@@ -1,17 +1,17 @@
 -- The edges of one row more.
-use Rattle.std.proofs.Common.{◌≡◌, ℕ, ◌+◌, ◌-◌, ◌<◌, ◌≤◌, ◌⊎◌, inl, inr, List, [], ◌∷◌, ◌++◌, length, get_or, take, refl, sym, ap, subst, ◌∙◌, arith, true, false, Bool, Some, ℤ, pos, neg_ℤ, ◌+ℤ◌, ◌≤ℤ◌, ◌^◌}
+use Rattle.std.proofs.Common.{◌≡◌, ℕ, ◌+◌, ◌-◌, ◌⊎◌, inl, inr, List, [], ◌∷◌, ◌++◌, length, get_or, take, sym, ap, subst, ◌∙◌, arith, true, false, Bool, Some, ℤ, pos, ◌+ℤ◌, ◌≤ℤ◌, ◌^◌}
 use Rattle.std.specs.Prelude.{slice_get}
 use Rattle.std.proofs.lemmas.Int.{ints}
 use Rattle.std.proofs.lemmas.List.{take_more}
-use Rattle.std.proofs.lemmas.List.Elements.{All-push, All-weaker, All-append, All-nil, All-cons, Contains-append_left, Contains-push}
+use Rattle.std.proofs.lemmas.List.Elements.{All-push, All-weaker, All-nil, Contains-append_left, Contains-push}
 use Rattle.std.specs.List.Sorted.{IsPermutation}
 use Rattle.std.proofs.lemmas.List.Sorted.{All-permutation, Contains-permutation}
 use Rattle.std.proofs.lemmas.Option.{slice_get_within, get_or_from_slice_get}
-use Rattle.std.specs.List.{All, Contains}
+use Rattle.std.specs.List.{All}
 use Rattle.hp_base.specs.declared.literal.IdxLit.{IdxLit}
 use Rattle.hp_base.specs.Cycle.{turned}
 use Rattle.hp_diff.specs.declared.edges.Edge.{Edge}
-use Rattle.hp_diff.specs.Labels.{EdgeFits, EdgesFit, edge_at}
+use Rattle.hp_diff.specs.Labels.{EdgesFit, edge_at}
 use Rattle.hp_diff.specs.Rows.{IsSmallBound}
 use Rattle.hp_diff.specs.Edges.{AreEdges, HasEdge, IsCovered, IsEdgeOf, IsOver}
 

@@ -7,3 +7,4 @@ pub mod Steps
 pub mod Points
 pub mod Building
 pub mod Finding
+pub mod Shown

@@ -1,23 +1,21 @@
 -- Values of nodes as values of names: they make the rows true of which the edges are.
-use Rattle.std.proofs.Common.{◌≡◌, ℕ, zero, suc, ◌+◌, ◌-◌, ◌*◌, ◌^◌, ◌<◌, ◌≤◌, ◌⊎◌, inl, inr, List, [], ◌∷◌, ◌++◌, length, map, take, get_or, refl, sym, ap, subst, ◌∙◌, arith, add-one, ℤ, pos, neg_ℤ, ◌+ℤ◌, ◌-ℤ◌, ◌≤ℤ◌, Bool, true, false, Option, Some, None, eq-eqb}
+use Rattle.std.proofs.Common.{◌≡◌, ℕ, zero, suc, ◌+◌, ◌^◌, ◌<◌, ◌≤◌, inl, inr, List, [], ◌∷◌, ◌++◌, length, take, get_or, refl, sym, ap, subst, ◌∙◌, arith, add-one, ℤ, pos, neg_ℤ, ◌+ℤ◌, ◌-ℤ◌, ◌≤ℤ◌, Bool, true, false, eq-eqb}
 use Rattle.std.proofs.lemmas.Int.{ints}
 use Rattle.std.proofs.lemmas.List.{get_or-map, length-map, length-take, map-append, take_more, get_or_append_left, get_or_default}
 use Rattle.std.proofs.Math.Seq.{get_or-append_seam}
 use Rattle.std.proofs.lemmas.Bool.{cases_lt}
 use Rattle.std.specs.List.{All, Contains}
 use Rattle.std.specs.List.Sorted.{IsStrictlyIncreasing}
-use Rattle.hp_math.specs.Rational.{ℚ, ratio, whole, is_whole, ◌-ℚ◌, ◌≤ℚ◌, neg_ℚ, ◌+ℚ◌}
+use Rattle.hp_math.specs.Rational.{ℚ, ratio, whole, ◌-ℚ◌, ◌≤ℚ◌, ◌+ℚ◌}
 use Rattle.hp_math.proofs.Rational.{ratio-neg, ratio-+, ratio-≤, ratio-inj, ratio-kept}
-use Rattle.hp_base.specs.declared.literal.Name.{Name}
 use Rattle.hp_base.specs.declared.literal.IdxLit.{IdxLit}
 use Rattle.hp_base.specs.declared.valuation.NameValue.{NameValue}
-use Rattle.hp_base.specs.Cycle.{turned}
 use Rattle.hp_base.specs.Truth.{Values, name_value, optional_value, IdxIsTrue}
 use Rattle.hp_diff.specs.declared.edges.Edge.{Edge}
 use Rattle.hp_diff.specs.Labels.{edge_at}
 use Rattle.hp_diff.specs.Settled.{value_at, AreValues}
-use Rattle.hp_diff.specs.Rows.{IsPoint, IsSmallWhole, names_of, mentioned}
-use Rattle.hp_diff.specs.Edges.{AreNames, AreEdges, AreNamedValues, HasEdge, IsCovered, IsOver, name_at}
+use Rattle.hp_diff.specs.Rows.{IsPoint, IsSmallWhole, mentioned}
+use Rattle.hp_diff.specs.Edges.{AreNames, AreEdges, AreNamedValues, IsCovered, IsOver, name_at}
 
 whole_difference : (a b : ℤ) → whole a -ℚ whole b ≡ whole (a -ℤ b)
 unfolding whole

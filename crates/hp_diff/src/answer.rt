@@ -110,7 +110,9 @@ fn answer_of(
 /// name, the last one's right name is the first one's left name, only equalities are turned about, and the bounds add to
 /// less than 0. `Err` says that memory was wanting. Nothing else can be answered, and every call returns.
 ///
-/// The method is Bellman and Ford's, with an end as soon as nothing changes.
+/// Rows become edges between numbered names, and rounds over all edges lower values until nothing changes or a cycle
+/// shows (Bellman, On a routing problem, 1958). At worst this takes as many rounds as there are names, and memory for one
+/// label whenever a value falls.
 pub fn decide(alloc: Global, rows: &[IdxLit]) -> Result<DiffAnswer, AllocError>
     requires few { length rows.now ≤ 100000 }
     requires bounds { All (λ row. IsSmallBound row.bound) rows.now }

@@ -1,3 +1,7 @@
+//! Labels: what walks along edges give the nodes. A label is never changed, and each new one of a node has a smaller
+//! value than the last, so that the labels of a walk stay true (Bellman, On a routing problem, 1958). Rounds go to and
+//! fro over the edges (Yen, An algorithm for finding shortest routes from all source nodes to a given destination in
+//! general networks, 1970).
 ghost use Rattle.std.specs.Prelude.{◌+ℤ◌, ◌<ℤ◌, ◌≤ℤ◌, FitsSigned, false, ◌≡◌, ◌≤◌, ◌<◌, ◌+◌, ◌^◌, ◌++◌, ◌∷◌, [], IfOk, IfSome, IfNone, OnErr, OnOk, length, slice_set};
 ghost use Rattle.std.specs.Int.{w128};
 ghost use Rattle.hp_diff.specs.Labels.{EdgesFit, AreLabels, AreLatest, AreRoots, AreShallow, Found, Holds, IsNext, IsRound, Turn, now_at, turn_at, with_label};
@@ -44,7 +48,7 @@ fn put(labels: &mut Labels, label: Label) -> Result<(), AllocError>
 }
 
 /// The label that a node has now.
-fn latest_label(labels: &Labels, nodes: usize, node: usize) -> Label
+pub fn latest_label(labels: &Labels, nodes: usize, node: usize) -> Label
     requires latest { AreLatest nodes labels.now }
     requires node { node < nodes }
     ensures { result ≡ now_at labels.now node }
@@ -153,7 +157,7 @@ fn edge_of_turn(edges: usize, backward: bool, turn: usize) -> usize
     if backward { edges - 1 - turn } else { turn }
 }
 
-/// Relaxes each edge once, in turns from the first to the last and back, which is Yen's improvement.
+/// Relaxes each edge once: in rounds of an odd depth from the last edge to the first.
 pub fn relax_all(
     labels: &mut Labels,
     nodes: usize,

@@ -11,5 +11,9 @@ mod labels;
 mod names;
 mod order;
 mod outcome;
+mod parents;
 
 pub use answer::{DiffAnswer, decide};
+
+#[cfg(test)]
+mod tests;

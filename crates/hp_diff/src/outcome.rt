@@ -1,3 +1,4 @@
+//! Rounds of relaxations until all edges hold or a cycle shows, and the values that the nodes have then.
 ghost use Rattle.std.specs.Prelude.{◌≡◌, ◌≤◌, ◌<◌, IfOk, length};
 ghost use Rattle.hp_diff.specs.Labels.{EdgesFit, AreLatest};
 ghost use Rattle.hp_diff.specs.Settled.{AreValuesOf, IsSettled};
@@ -5,6 +6,7 @@ ghost use Rattle.hp_diff.specs.Settled.{AreValuesOf, IsSettled};
 use crate::cycles::cycle_of;
 use crate::edges::Edge;
 use crate::labels::{Labels, Round, relax_all, roots};
+use crate::parents::{Closed, shown_cycle};
 use std::alloc::{AllocError, Global};
 
 /// Values of the nodes that keep every edge, or a cycle of edges whose bounds add to less than 0.
@@ -36,7 +38,11 @@ pub fn settle(alloc: Global, nodes: usize, edges: &[Edge]) -> Result<Settled, Al
     for depth in 0..nodes {
         match relax_all(&mut labels, nodes, edges, depth)? {
             Round::Settled => return Ok(Settled::Values(values_of(alloc, &labels, nodes)?)),
-            Round::Changed => {}
+            Round::Changed => {
+                if let Closed::Cycle(cycle) = shown_cycle(alloc, &labels, nodes, edges)? {
+                    return Ok(Settled::Cycle(cycle));
+                }
+            }
             Round::Deep => {
                 let made = labels.made.as_slice();
                 return Ok(Settled::Cycle(cycle_of(alloc, edges, nodes, made, made.len() - 1)?));

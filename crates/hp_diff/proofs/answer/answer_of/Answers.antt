@@ -1,5 +1,3 @@
-use Rattle.std.specs.List.{All}
-use Rattle.std.proofs.Common.{length, ◌<◌}
 use Rattle.hp_diff.proofs.Building.{edges_fit}
 use Rattle.hp_diff.proofs.Points.{is_point}
 use Rattle.hp_diff.proofs.Steps.{valid_steps, walk_within}

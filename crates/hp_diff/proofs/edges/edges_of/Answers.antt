@@ -1,4 +1,4 @@
-use Rattle.std.proofs.Common.{arith, sym, subst, take, length, ◌<◌}
+use Rattle.std.proofs.Common.{arith, subst}
 use Rattle.std.proofs.lemmas.List.{take_all}
 use Rattle.std.proofs.lemmas.Option.{slice_get-get_or}
 use Rattle.std.specs.List.{All}

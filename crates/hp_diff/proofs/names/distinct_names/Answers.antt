@@ -1,8 +1,6 @@
-use Rattle.std.proofs.Common.{◌≡◌, ◌≤◌, ap, sym, ◌∙◌, subst, length, arith, rules}
+use Rattle.std.proofs.Common.{◌≤◌, subst, length, rules}
 use Rattle.std.specs.Prelude.{nat_eq}
-use Rattle.std.specs.List.{dedup}
 use Rattle.std.proofs.lemmas.List.Filters.{dedup_is}
-use Rattle.hp_diff.specs.Edges.{AreNames}
 use Rattle.hp_diff.proofs.Finding.{names_are}
 use Rattle.hp_diff.proofs.names.distinct_names.Goals as goal
 
