@@ -1,0 +1,9 @@
+pub mod Relaxing
+pub mod Rounds
+pub mod Repeats
+pub mod Settling
+pub mod Mentions
+pub mod Steps
+pub mod Points
+pub mod Building
+pub mod Finding

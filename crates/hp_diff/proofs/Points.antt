@@ -1,0 +1,142 @@
+-- Values of nodes as values of names: they make the rows true of which the edges are.
+use Rattle.std.proofs.Common.{◌≡◌, ℕ, zero, suc, ◌+◌, ◌-◌, ◌*◌, ◌^◌, ◌<◌, ◌≤◌, ◌⊎◌, inl, inr, List, [], ◌∷◌, ◌++◌, length, map, take, get_or, refl, sym, ap, subst, ◌∙◌, arith, add-one, ℤ, pos, neg_ℤ, ◌+ℤ◌, ◌-ℤ◌, ◌≤ℤ◌, Bool, true, false, Option, Some, None, eq-eqb}
+use Rattle.std.proofs.lemmas.Int.{ints}
+use Rattle.std.proofs.lemmas.List.{get_or-map, length-map, length-take, map-append, take_more, get_or_append_left, get_or_default}
+use Rattle.std.proofs.Math.Seq.{get_or-append_seam}
+use Rattle.std.proofs.lemmas.Bool.{cases_lt}
+use Rattle.std.specs.List.{All, Contains}
+use Rattle.std.specs.List.Sorted.{IsStrictlyIncreasing}
+use Rattle.hp_math.specs.Rational.{ℚ, ratio, whole, is_whole, ◌-ℚ◌, ◌≤ℚ◌, neg_ℚ, ◌+ℚ◌}
+use Rattle.hp_math.proofs.Rational.{ratio-neg, ratio-+, ratio-≤, ratio-inj, ratio-kept}
+use Rattle.hp_base.specs.declared.literal.Name.{Name}
+use Rattle.hp_base.specs.declared.literal.IdxLit.{IdxLit}
+use Rattle.hp_base.specs.declared.valuation.NameValue.{NameValue}
+use Rattle.hp_base.specs.Cycle.{turned}
+use Rattle.hp_base.specs.Truth.{Values, name_value, optional_value, IdxIsTrue}
+use Rattle.hp_diff.specs.declared.edges.Edge.{Edge}
+use Rattle.hp_diff.specs.Labels.{edge_at}
+use Rattle.hp_diff.specs.Settled.{value_at, AreValues}
+use Rattle.hp_diff.specs.Rows.{IsPoint, IsSmallWhole, names_of, mentioned}
+use Rattle.hp_diff.specs.Edges.{AreNames, AreEdges, AreNamedValues, HasEdge, IsCovered, IsOver, name_at}
+
+whole_difference : (a b : ℤ) → whole a -ℚ whole b ≡ whole (a -ℤ b)
+unfolding whole
+whole_difference a b = ap (λ q. ratio a 1 +ℚ q) (ratio-neg b 1 (omega arith)) ∙ ratio-+ a (neg_ℤ b) 1 (omega arith)
+
+whole_le : (a b : ℤ) → a ≤ℤ b → whole a ≤ℚ whole b
+unfolding whole
+whole_le a b h = ratio-≤ a b 1 (omega arith) h
+
+whole_same : (a b : ℤ) → whole a ≡ whole b → a ≡ b
+unfolding whole
+whole_same a b h = ratio-inj a b 1 (omega arith) h
+
+small_whole : (n : ℤ) → pos 0 ≤ℤ (n +ℤ pos (10 ^ 37)) → n ≤ℤ pos (10 ^ 37) → IsSmallWhole (whole n)
+unfolding whole
+small_whole n low high =
+    let kept = ratio-kept n 1 (omega arith) (λ e above below h. absurd (omega arith)) in
+    record {
+      whole = eq-eqb (ratio n 1).den 1 kept.1;
+      low = subst (λ m. pos 0 ≤ℤ (m +ℤ pos (10 ^ 37))) (sym kept.0) low;
+      high = subst (λ m. m ≤ℤ pos (10 ^ 37)) (sym kept.0) high;
+    }
+
+-- one name more with its value
+pub next_named : (names : List ℕ) (values : List ℤ) (named : List NameValue) (at : ℕ) (item : NameValue) → at < length names → item.name.0 ≡ get_or names at 0
+    → item.value ≡ whole (value_at values (at + 1) -ℤ value_at values 0) → AreNamedValues (take at names) values named → AreNamedValues (take (at + 1) names) values (named ++ item ∷ [])
+next_named names values named at item h name value n =
+    let number = λ (nv : NameValue). nv.name.0 in
+    let size : length named ≡ at = sym (length-map named number) ∙ ap length n.same ∙ length-take at names ∙ omega arith in
+    record {
+      same = map-append number named (item ∷ []) ∙ (λ i. n.same i ++ name i ∷ []) ∙ sym (take_more names at 0 h);
+      value = λ k d k_in. elim (cases_lt k at) [
+        | inl l ↦
+            (let inside : k < length named = omega (arith, size) in
+            let before : k < length (take at names) = omega (arith, length-take at names) in
+            ap (λ (nv : NameValue). nv.value) (get_or_append_left named (item ∷ []) d k inside) ∙ n.value k d before)
+        | inr l ↦
+            (let is : k ≡ length named = omega (arith, size, length-take (at + 1) names) in
+            let last : get_or (named ++ item ∷ []) k d ≡ item = ap (λ j. get_or (named ++ item ∷ []) j d) is ∙ get_or-append_seam named item [] d in
+            ap (λ (nv : NameValue). nv.value) last ∙ value ∙ ap (λ j. whole (value_at values (j + 1) -ℤ value_at values 0)) (sym (is ∙ size)))
+      ];
+    }
+
+module _ (names : List ℕ) (values : List ℤ) (named : List NameValue) (n : AreNamedValues names values named) where
+  abbrev base : ℤ
+  base = value_at values 0
+
+  same_length : length named ≡ length names
+  same_length = sym (length-map named (λ nv. nv.name.0)) ∙ ap length n.same
+
+  name_of_item : (k : ℕ) (d : NameValue) → k < length names → (get_or named k d).name.0 ≡ get_or names k 0
+  name_of_item k d h =
+      let inside : k < length named = omega (arith, same_length) in
+      sym (get_or-map (λ (nv : NameValue). nv.name.0) named k d 0 inside) ∙ ap (λ ns. get_or ns k 0) n.same
+
+  -- what a valuation that agrees gives the name of a node
+  node_value : (v : Values) → All (λ nv. name_value v nv.name.0 ≡ nv.value) named → (d : NameValue) (x : ℕ) → x ≤ length names
+      → optional_value v (name_at names x) ≡ whole (value_at values x -ℤ base)
+  node_value v all d zero h = ap whole (omega (arith, ints))
+  node_value v all d (suc k) h =
+      let inside : k < length named = omega (arith, same_length) in
+      ap (name_value v) (sym (name_of_item k d (omega arith))) ∙ all k d inside ∙ n.value k d (omega arith) ∙ ap (λ x. whole (value_at values x -ℤ base)) (add-one k)
+
+  module _ (edges : List Edge) (a : AreValues (length names + 1) edges values) (v : Values) (all : All (λ nv. name_value v nv.name.0 ≡ nv.value) named) (d : NameValue) where
+    abbrev difference : IdxLit → ℚ
+    difference row = optional_value v row.left -ℚ optional_value v row.right
+
+    -- the difference of a row's names is that of its nodes
+    over_value : (e : Edge) (row : IdxLit) → IsOver names e row → difference row ≡ whole (value_at values e.to -ℤ value_at values e.from)
+    over_value e row o =
+        (λ i. optional_value v (sym o.left i) -ℚ optional_value v (sym o.right i))
+        ∙ (λ i. node_value v all d e.to o.to i -ℚ node_value v all d e.from o.from i)
+        ∙ whole_difference (value_at values e.to -ℤ base) (value_at values e.from -ℤ base)
+        ∙ ap whole (omega (arith, ints))
+
+    same_value : (x y : ℕ) → x ≤ length names → y ≤ length names → name_at names x ≡ name_at names y → value_at values x ≡ value_at values y
+    same_value x y h g e =
+        let same = whole_same (value_at values x -ℤ base) (value_at values y -ℤ base) (sym (node_value v all d x h) ∙ ap (optional_value v) e ∙ node_value v all d y g) in
+        omega (arith, ints)
+
+    kept_edge : (e : Edge) → Contains edges e → value_at values e.to ≤ℤ (value_at values e.from +ℤ e.bound)
+    kept_edge e c =
+        let k = c.0 in
+        let is : edge_at edges k ≡ e = get_or_default edges k _ e c.1 ∙ c.2 in
+        subst (λ (f : Edge). value_at values f.to ≤ℤ (value_at values f.from +ℤ f.bound)) is (a.keep k c.1)
+
+    row_true : (row : IdxLit) → IsCovered names edges row → (exact : Bool) → row.exact ≡ exact → IdxIsTrue v row
+    row_true row c false no_e =
+        let h = c.forward in
+        let kept = kept_edge h.0 h.1 in
+        let bound = h.2.bound in
+        inl (no_e, subst (λ q. q ≤ℚ whole row.bound) (sym (over_value h.0 row h.2)) (whole_le _ _ (omega (arith, ints))))
+    row_true row c true yes_e =
+        let h = c.forward in
+        let g = c.backward yes_e in
+        let kept = kept_edge h.0 h.1 in
+        let bound = h.2.bound in
+        let back = kept_edge g.0 g.1 in
+        let back_bound = g.2.bound in
+        let left = same_value h.0.to g.0.from h.2.to g.2.from (h.2.left ∙ sym g.2.right) in
+        let right = same_value h.0.from g.0.to h.2.from g.2.to (h.2.right ∙ sym g.2.left) in
+        inr (over_value h.0 row h.2 ∙ ap whole (omega (arith, ints)))
+
+    pub all_true : (rows : List IdxLit) → AreEdges names rows edges → All (IdxIsTrue v) rows
+    all_true rows e k row h = row_true (get_or rows k row) (e.cover k row h) (get_or rows k row).exact refl
+
+pub is_point : (rows : List IdxLit) (names : List ℕ) (edges : List Edge) (values : List ℤ) (named : List NameValue) → length rows ≤ 100000 → AreNames rows names
+    → AreEdges names rows edges → AreValues (length names + 1) edges values → AreNamedValues names values named → IsPoint rows named
+is_point rows names edges values named few ns es vs n = record {
+  named = subst (λ xs. All (Contains xs) (mentioned rows)) (sym n.same) ns.all;
+  only = subst (λ xs. All (Contains (mentioned rows)) xs) (sym n.same) ns.only;
+  rising = subst IsStrictlyIncreasing (sym n.same) ns.rising;
+  small = λ k d h.
+      (let k_in : k < length names = omega (arith, same_length names values named n) in
+      let low = vs.low (k + 1) (omega arith) in
+      let high = vs.high (k + 1) (omega arith) in
+      let low_base = vs.low 0 (omega arith) in
+      let high_base = vs.high 0 (omega arith) in
+      let count = ns.few in
+      subst IsSmallWhole (sym (n.value k d k_in)) (small_whole _ (omega (arith, ints)) (omega (arith, ints))));
+  keeps = λ v all. all_true names values named n edges vs v all (record { name = record { 0 = 0 }; value = whole (pos 0) }) rows es;
+}

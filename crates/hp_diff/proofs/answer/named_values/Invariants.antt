@@ -1,0 +1,6 @@
+use Rattle.std.proofs.Common.{take}
+use Rattle.hp_diff.specs.Edges.{AreNamedValues}
+use Rattle.hp_diff.proofs.answer.named_values.Given as goal
+
+abbrev pub invariant-loop-at : goal.invariant-loop-at
+invariant-loop-at l = AreNamedValues (take l.at l.names) l.values l.named

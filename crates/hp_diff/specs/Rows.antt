@@ -1,0 +1,52 @@
+-- Rows: bounds on differences of named whole numbers, and values that keep them.
+use Rattle.std.specs.Prelude.{◌≡◌, ℕ, ◌+◌, ◌^◌, List, [], ◌∷◌, ◌++◌, ℤ, pos, ◌+ℤ◌, ◌≤ℤ◌, Option, Some, None, map, true}
+use Rattle.std.specs.List.{All, Contains}
+use Rattle.std.specs.List.Sorted.{IsStrictlyIncreasing}
+use Rattle.hp_math.specs.Rational.{ℚ, is_whole}
+use Rattle.hp_base.specs.declared.literal.Name.{Name}
+use Rattle.hp_base.specs.declared.literal.IdxLit.{IdxLit}
+use Rattle.hp_base.specs.declared.literal.Lit.{Lit}
+use Rattle.hp_base.specs.declared.literal.Lit.TheVariants.{Idx}
+use Rattle.hp_base.specs.declared.valuation.NameValue.{NameValue}
+use Rattle.hp_base.specs.Truth.{Values, name_value, IdxIsTrue}
+use Rattle.hp_base.specs.Cycle.{IsValidIdx}
+use Rattle.hp_diff.specs.declared.answer.DiffAnswer.{DiffAnswer}
+use Rattle.hp_diff.specs.declared.answer.DiffAnswer.TheVariants.{Point, Cycle}
+
+-- a bound of a magnitude of at most 10^25
+pub record IsSmallBound (n : ℤ) : Type 0 where
+  pub low : pos 0 ≤ℤ (n +ℤ pos (10 ^ 25))
+  pub high : n ≤ℤ pos (10 ^ 25)
+
+abbrev pub number_of : Option Name → List ℕ
+number_of None = []
+number_of (Some name) = name.0 ∷ []
+
+-- the names that the rows mention, each as often as it stands in them
+abbrev pub mentioned : List IdxLit → List ℕ
+mentioned [] = []
+mentioned (row ∷ rows) = number_of row.left ++ number_of row.right ++ mentioned rows
+
+-- the names that are given a value, in order
+abbrev pub names_of : List NameValue → List ℕ
+names_of values = map (λ nv. nv.name.0) values
+
+-- a whole number of a magnitude of at most 10^37
+pub record IsSmallWhole (q : ℚ) : Type 0 where
+  pub whole : is_whole q ≡ true
+  pub low : pos 0 ≤ℤ (q.num +ℤ pos (10 ^ 37))
+  pub high : q.num ≤ℤ pos (10 ^ 37)
+
+-- Each name of the rows has one value, no other name has one, the values are small whole numbers, and every row is true
+-- wherever the names have these values.
+pub record IsPoint (rows : List IdxLit) (values : List NameValue) : Type 0 where
+  pub named : All (Contains (names_of values)) (mentioned rows)
+  pub only : All (Contains (mentioned rows)) (names_of values)
+  pub rising : IsStrictlyIncreasing (names_of values)
+  pub small : All (λ nv. IsSmallWhole nv.value) values
+  pub keeps : (v : Values) → All (λ nv. name_value v nv.name.0 ≡ nv.value) values → All (IdxIsTrue v) rows
+
+-- values of the names that make all rows true, or a cycle of rows whose bounds add to less than 0
+abbrev pub IsDiffAnswer : List IdxLit → DiffAnswer → Type 0
+IsDiffAnswer rows (Point values) = IsPoint rows values
+IsDiffAnswer rows (Cycle steps) = IsValidIdx (map Idx rows) steps
