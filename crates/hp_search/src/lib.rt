@@ -10,3 +10,6 @@ mod singles;
 mod truth;
 
 pub use searching::{Found, SearchErr, Solution, search};
+
+#[cfg(test)]
+mod tests;
