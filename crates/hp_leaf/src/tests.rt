@@ -50,13 +50,22 @@ fn path(alloc: Global) -> Result<Vec<Lit>, AllocError> {
     Ok(path)
 }
 
+fn is_narrow(lit: &Lit) -> bool
+    ensures { result ≡ true → HasNarrowBound lit.now }
+{
+    match lit {
+        Lit::Idx(row) => -LARGEST <= row.bound,
+        Lit::Num(_) => true,
+        Lit::Ptr(_) => true,
+    }
+}
+
 fn are_narrow(lits: &[Lit]) -> bool
     ensures { result ≡ true → All HasNarrowBound lits.now }
 {
     for lit in lits {
-        match lit {
-            Lit::Idx(row) if row.bound == i128::MIN => return false,
-            _ => {}
+        if !is_narrow(lit) {
+            return false;
         }
     }
     true
