@@ -27,3 +27,6 @@ pub fn spent_trees_are_small()
 pub fn closed_is_nested()
     ensures { ClosedIsNested }
 {}
+
+#[cfg(test)]
+mod tests;

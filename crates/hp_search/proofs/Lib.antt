@@ -1,0 +1,5 @@
+pub mod Waiting
+pub mod Opening
+pub mod Wholes
+pub mod Placing
+pub mod Closing

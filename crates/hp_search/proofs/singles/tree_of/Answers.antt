@@ -1,0 +1,9 @@
+use Rattle.std.proofs.Common.{refl}
+use Rattle.hp_search.proofs.Closing.{more_lines, more_steps}
+use Rattle.hp_search.proofs.singles.tree_of.Goals as goal
+
+pub loop-at-preserved : goal.loop-at-preserved
+loop-at-preserved c = (
+  more_lines c.args.singles.now c.args.steps.now c.loop-at.tree _ c.loop-at.at _ c.line_of.result c.loop-at-test.true c.line_of.ensures c.in_ok-push.ensures.ok c.loop-at.invariant.0,
+  more_steps c.args.steps.now c.loop-at.renumbered _ c.loop-at.at _ _ c.loop-at-test.true refl c.in_ok-push-2.ensures.ok c.loop-at.invariant.1,
+)

@@ -1,0 +1,15 @@
+//! A search for values that make every line of a ground problem true, with a tree of splits as its evidence where
+//! there are none or where it is given up.
+#![tactic(auto)]
+
+mod looking;
+mod places;
+mod rows;
+mod searching;
+mod singles;
+mod truth;
+
+pub use searching::{Found, SearchErr, Solution, search};
+
+#[cfg(test)]
+mod tests;

@@ -1,0 +1,79 @@
+//! Going over the places of a tree in preorder. The path is the place where the search stands; from its last choice on
+//! up, the literals after the chosen ones are the places that wait.
+ghost use Rattle.std.specs.Prelude.{◌≡◌, ◌++◌, ◌∷◌, [], IfOk, OnOk, length, replicate};
+ghost use Rattle.hp_leaf.specs.declared.tree.Node.TheVariants.{Unopened};
+ghost use Rattle.hp_leaf.specs.Tree.{lits_at, IsLine, children};
+ghost use Rattle.hp_search.specs.Search.{IsSibling, later, MovedOn};
+
+use hp_base::Ground;
+use hp_leaf::{Choice, Node};
+use hp_num::List;
+use std::alloc::{AllocError, Global};
+
+/// The number of literals of a line.
+fn count_of(g: &Ground, line: u32) -> usize
+    ensures { result ≡ length (lits_at g.now.lines line) }
+{
+    let at = (line as usize).saturating_sub(1);
+    match g.lines.as_slice().get(at) {
+        Some(found) => found.lits.len(),
+        None => 0,
+    }
+}
+
+/// The choice of the literal after this one, where the line has one.
+fn sibling(g: &Ground, choice: Choice) -> Result<Option<Choice>, AllocError>
+    ensures { IfOk result (λ sibling. IsSibling g.now.lines choice sibling) }
+{
+    if (choice.lit as usize) < count_of(g, choice.line) {
+        match choice.lit.checked_add(1) {
+            Some(lit) => Ok(Some(Choice {
+                line: choice.line,
+                lit,
+            })),
+            None => Err(AllocError),
+        }
+    } else {
+        Ok(None)
+    }
+}
+
+/// Goes on to the next place that waits; false where there is none.
+#[tactic(auto, using(crate::proofs::Waiting::passed_over, crate::proofs::Waiting::went_on))]
+pub fn go_on(g: &Ground, path: &mut List<Choice>) -> Result<bool, AllocError>
+    ensures { IfOk result (λ more. MovedOn g.now.lines (later g.now.lines [] path.old) path.new more) }
+{
+    while let Some(choice) = path.pop() {
+        match sibling(g, choice)? {
+            Some(other) => {
+                path.push(other)?;
+                return Ok(true);
+            }
+            None => {}
+        }
+    }
+    Ok(false)
+}
+
+/// Goes down to the first literal of a line, or on where the line has none.
+#[tactic(auto, using(crate::proofs::Waiting::went_down, crate::proofs::Waiting::went_past))]
+pub fn enter(g: &Ground, path: &mut List<Choice>, line: u32) -> Result<bool, AllocError>
+    ensures { IfOk result (λ more. MovedOn g.now.lines (children path.old line 0 (length (lits_at g.now.lines line)) ++ later g.now.lines [] path.old) path.new more) }
+{
+    if count_of(g, line) == 0 {
+        return go_on(g, path);
+    }
+    path.push(Choice { line, lit: 1 })?;
+    Ok(true)
+}
+
+/// Writes an unopened place for each place that waits.
+pub fn leave(g: &Ground, tree: &mut List<Node>, path: &mut List<Choice>) -> Result<(), AllocError>
+    ensures { OnOk result (tree.new ≡ tree.old ++ replicate (length (path.old ∷ later g.now.lines [] path.old)) Unopened) }
+{
+    tree.push(Node::Unopened)?;
+    'places: while go_on(g, path)? {
+        tree.push(Node::Unopened)?;
+    }
+    Ok(())
+}
