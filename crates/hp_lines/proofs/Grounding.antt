@@ -106,7 +106,7 @@ is_false : (a : Bool) → (a ≡ true → ⊥) → a ≡ false
 is_false true h = absurd (h refl)
 is_false false h = refl
 
-apart_back : (x y : List ℕ) → bytes_eq x y ≡ false → bytes_eq y x ≡ false
+pub apart_back : (x y : List ℕ) → bytes_eq x y ≡ false → bytes_eq y x ≡ false
 apart_back x y e = is_false (bytes_eq y x) (λ t. let s : y ≡ x = same_text y x t in not_both (bytes_eq x y) e (subst (λ (z : List ℕ). bytes_eq x z ≡ true) (sym s) (text_same x)))
 
 distinct_more : (ns : List (List ℕ)) (x : List ℕ) → AreDistinct ns → is_among x ns ≡ false → AreDistinct (ns ++ x ∷ [])

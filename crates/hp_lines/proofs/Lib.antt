@@ -4,3 +4,5 @@ pub mod Queries
 pub mod Sources
 pub mod Grounding
 pub mod Numbers
+pub mod Semantics
+pub mod Models

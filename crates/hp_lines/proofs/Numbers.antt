@@ -1,10 +1,12 @@
 -- Comparisons of fractions as bounds on their difference.
-use Rattle.std.proofs.Common.{◌≡◌, ℕ, zero, suc, ◌<◌, ◌≤◌, Bool, true, false, ◌&&◌, ℤ, pos, neg_ℤ, ◌+ℤ◌, ◌-ℤ◌, ◌*ℤ◌, ◌≤ℤ◌, refl, sym, ap, subst, ◌∙◌, arith, inl, inr, ◌⊎◌}
+use Rattle.std.proofs.Common.{◌≡◌, ℕ, zero, suc, ◌<◌, ◌≤◌, Bool, true, false, ◌&&◌, ℤ, pos, neg_ℤ, ◌+ℤ◌, ◌-ℤ◌, ◌*ℤ◌, nat_eq, ◌≤ℤ◌, ◌<ℤ◌, refl, sym, ap, subst, ◌∙◌, arith, inl, inr, ◌⊎◌}
 use Rattle.std.proofs.lemmas.Int.{ints}
+use Rattle.std.specs.Ordering.{int_eq}
 use Rattle.std.proofs.lemmas.Bool.{eqb-true, eq-eqb}
+use Rattle.std.proofs.lemmas.Bool.Decides.{Decides-int_eq}
 use Rattle.hp_math.specs.Rational.{ℚ, ratio, whole, ◌+ℚ◌, ◌-ℚ◌, neg_ℚ, ◌≤ℚ◌, ◌<ℚ◌, le_ℚ, lt_ℚ, eq_ℚ, is_whole}
 use Rattle.hp_math.proofs.Whole.{+ℤ-*ℤ}
-use Rattle.hp_math.proofs.Rational.{ratio-kept, ratio-parts}
+use Rattle.hp_math.proofs.Rational.{ratio-kept, ratio-parts, ratio-neg, ratio-+, ratio-≤, ratio-<, ratio-≤_out, ratio-<_out}
 use Rattle.hp_math.proofs.Field.{by_common2, at_one, fractions, whole_at, le_ℚ-true, le_ℚ-false, lt_ℚ-true, lt_ℚ-false, <ℚ_irrefl, ≤ℚ_refl}
 
 pub is_true : (b : Bool) → (b ≡ false → ⊥) → b ≡ true
@@ -25,12 +27,12 @@ both_true false b e = absurd (cc)
 pub eq_ℚ-true : (a b : ℚ) → eq_ℚ a b ≡ true → a ≡ b
 eq_ℚ-true a b h =
     let parts = both_true _ _ h in
-    let n : a.num ≡ b.num = int_eq-true a.num b.num parts.0 in
+    let n : a.num ≡ b.num = (Decides-int_eq a.num b.num).0 parts.0 in
     let d : a.den ≡ b.den = eqb-true a.den b.den parts.1 in
     sym (ratio-parts a) ∙ (λ i. ratio (n i) (d i)) ∙ ratio-parts b
 
 pub eq_ℚ-from : (a b : ℚ) → a ≡ b → eq_ℚ a b ≡ true
-eq_ℚ-from a b e = subst (λ c. eq_ℚ a c ≡ true) e (both (int_eq a.num a.num) (nat_eq a.den a.den) (int_eq-same a.num) (eq-eqb a.den a.den refl))
+eq_ℚ-from a b e = subst (λ c. eq_ℚ a c ≡ true) e (both (int_eq a.num a.num) (nat_eq a.den a.den) ((Decides-int_eq a.num a.num).1 refl) (eq-eqb a.den a.den refl))
   where
     both : (x y : Bool) → x ≡ true → y ≡ true → (x && y) ≡ true
     both true y p q = q
@@ -65,23 +67,51 @@ pub difference-eq : (k : ℤ) (a b : ℚ) → a -ℚ b ≡ whole k → a ≡ b +
 difference-eq k = by_common2 (λ a b. a -ℚ b ≡ whole k → a ≡ b +ℚ whole k) (λ j m n g.
     let g2 = simp (whole_at k j, at_one) at g in simp (whole_at k j, at_one) (omega (arith, fractions)))
 
+-- ---- sums and negations of whole numbers
+whole-+ : (m n : ℤ) → whole m +ℚ whole n ≡ whole (m +ℤ n)
+unfolding whole
+whole-+ m n = ratio-+ m n 1 (omega arith)
+
+pub neg-whole : (n : ℤ) → neg_ℚ (whole n) ≡ whole (neg_ℤ n)
+unfolding whole
+neg-whole n = ratio-neg n 1 (omega arith)
+
+whole-minus : (m n : ℤ) → whole m -ℚ whole n ≡ whole (m -ℤ n)
+whole-minus m n = ap (λ x. whole m +ℚ x) (neg-whole n) ∙ whole-+ m (neg_ℤ n) ∙ ap whole (let e : m +ℤ neg_ℤ n ≡ m -ℤ n = omega (arith, ints) in e)
+
+whole-≤ : (m n : ℤ) → m ≤ℤ n → whole m ≤ℚ whole n
+unfolding whole
+whole-≤ m n h = ratio-≤ m n 1 (omega arith) h
+
+whole-< : (m n : ℤ) → m <ℤ n → whole m <ℚ whole n
+unfolding whole
+whole-< m n h = ratio-< m n 1 (omega arith) h
+
+whole-≤_out : (m n : ℤ) → whole m ≤ℚ whole n → m ≤ℤ n
+unfolding whole
+whole-≤_out m n h = ratio-≤_out m n 1 (omega arith) h
+
+whole-<_out : (m n : ℤ) → whole m <ℚ whole n → m <ℤ n
+unfolding whole
+whole-<_out m n h = ratio-<_out m n 1 (omega arith) h
+
 -- on whole numbers a strict bound is the bound less one
 whole-lt : (k m n : ℤ) → whole m <ℚ (whole n +ℚ whole k) → (whole m -ℚ whole n) ≤ℚ whole (k -ℤ pos 1)
 whole-lt k m n g =
-    let g2 = simp (whole_at m 0, whole_at n 0, whole_at k 0, at_one) at g in
-    simp (whole_at m 0, whole_at n 0, whole_at (k -ℤ pos 1) 0, at_one) (omega (arith, fractions))
+    let h = whole-<_out m (n +ℤ k) (subst (λ x. whole m <ℚ x) (whole-+ n k) g) in
+    subst (λ x. x ≤ℚ whole (k -ℤ pos 1)) (sym (whole-minus m n)) (whole-≤ (m -ℤ n) (k -ℤ pos 1) (omega (arith, ints)))
 
 lt-whole : (k m n : ℤ) → (whole m -ℚ whole n) ≤ℚ whole (k -ℤ pos 1) → whole m <ℚ (whole n +ℚ whole k)
 lt-whole k m n g =
-    let g2 = simp (whole_at m 0, whole_at n 0, whole_at (k -ℤ pos 1) 0, at_one) at g in
-    simp (whole_at m 0, whole_at n 0, whole_at k 0, at_one) (omega (arith, fractions))
+    let h = whole-≤_out (m -ℤ n) (k -ℤ pos 1) (subst (λ x. x ≤ℚ whole (k -ℤ pos 1)) (whole-minus m n) g) in
+    subst (λ x. whole m <ℚ x) (sym (whole-+ n k)) (whole-< m (n +ℤ k) (omega (arith, ints)))
 
 pub lt-difference : (k : ℤ) (a b : ℚ) → is_whole a ≡ true → is_whole b ≡ true → a <ℚ (b +ℚ whole k) → (a -ℚ b) ≤ℚ whole (k -ℤ pos 1)
 lt-difference k a b p q =
     subst (λ x. x <ℚ (b +ℚ whole k) → (x -ℚ b) ≤ℚ whole (k -ℤ pos 1)) (sym (whole-of a p))
-        (subst (λ y. whole a.num <ℚ (y +ℚ whole k) → (whole a.num -ℚ y) ≤ℚ whole (k -ℤ pos 1)) (sym (whole-of b q)) (whole-lt k a.num b.num))
+    (subst (λ y. whole a.num <ℚ (y +ℚ whole k) → (whole a.num -ℚ y) ≤ℚ whole (k -ℤ pos 1)) (sym (whole-of b q)) (whole-lt k a.num b.num))
 
 pub difference-lt : (k : ℤ) (a b : ℚ) → is_whole a ≡ true → is_whole b ≡ true → (a -ℚ b) ≤ℚ whole (k -ℤ pos 1) → a <ℚ (b +ℚ whole k)
 difference-lt k a b p q =
     subst (λ x. (x -ℚ b) ≤ℚ whole (k -ℤ pos 1) → x <ℚ (b +ℚ whole k)) (sym (whole-of a p))
-        (subst (λ y. (whole a.num -ℚ y) ≤ℚ whole (k -ℤ pos 1) → whole a.num <ℚ (y +ℚ whole k)) (sym (whole-of b q)) (lt-whole k a.num b.num))
+    (subst (λ y. (whole a.num -ℚ y) ≤ℚ whole (k -ℤ pos 1) → whole a.num <ℚ (y +ℚ whole k)) (sym (whole-of b q)) (lt-whole k a.num b.num))

@@ -7,7 +7,7 @@ use Rattle.std.proofs.lemmas.List.Quantifiers.{position-Some}
 use Rattle.std.specs.List.{All}
 use Rattle.std.proofs.lemmas.List.Elements.{All-nil, All-cons, All-head, All-tail}
 use Rattle.hp_math.specs.Rational.{ℚ, whole, ◌+ℚ◌, ◌-ℚ◌, neg_ℚ, ◌≤ℚ◌, is_whole}
-use Rattle.hp_math.proofs.Field.{+ℚ_zero, +ℚ_comm, +ℚ-neg_ℚ, ≤ℚ_refl, le_ℚ-true, lt_ℚ-true, at_one, whole_at, fractions}
+use Rattle.hp_math.proofs.Field.{+ℚ_zero, +ℚ_comm, +ℚ-neg_ℚ, ≤ℚ_refl, le_ℚ-true, lt_ℚ-true}
 use Rattle.hp_ast.specs.declared.term.Term as term
 use Rattle.hp_ast.specs.declared.term.Term.{Term, fold-roll-Term}
 use Rattle.hp_ast.specs.declared.term.Term.TheOpen.{Term-F}
@@ -30,7 +30,7 @@ use Rattle.hp_lines.specs.Problem.{atom_of, cmp_of, numeral_term, operand_term}
 use Rattle.hp_lines.specs.Lines.{above, bound_of, compared, form_of, is_base, is_exact, number, AreLits, IsLiteralOf}
 use Rattle.hp_lines.proofs.Prefixes.{same_text, text_same}
 use Rattle.hp_lines.proofs.Grounding.{apart_back}
-use Rattle.hp_lines.proofs.Numbers.{whole-whole, le_ℚ-from, lt_ℚ-from, eq_ℚ-from, eq_ℚ-true, le-difference, difference-le, lt-difference, difference-lt, eq-difference, difference-eq}
+use Rattle.hp_lines.proofs.Numbers.{neg-whole, whole-whole, le_ℚ-from, lt_ℚ-from, eq_ℚ-from, eq_ℚ-true, le-difference, difference-le, lt-difference, difference-lt, eq-difference, difference-eq}
 
 or_right : (a : Bool) {b : Bool} → b ≡ true → (a || b) ≡ true
 or_right true e = refl
@@ -50,9 +50,6 @@ sum_value names f n d = fold-roll-Term ℚ (value_step names f) (Term-F.Add (ter
 difference_value : (names : Names) (f : Functions) (n : List ℕ) (d : List ℕ) → value names f (operand_term (operand.Difference n d)) ≡ names n -ℚ whole (pos (numeral_value d))
 difference_value names f n d = fold-roll-Term ℚ (value_step names f) (Term-F.Sub (term.Name n) (numeral_term d))
     ∙ (λ i. name_term_value names f n i -ℚ number_value names f (whole (pos (numeral_value d))) i)
-
-neg-whole : (n : ℤ) → neg_ℚ (whole n) ≡ whole (neg_ℤ n)
-neg-whole n = simp (whole_at n 0, whole_at (neg_ℤ n) 0, at_one) (omega (arith, fractions))
 
 -- ---- a constant by its place
 abbrev pub entry_name : ConstValue → List ℕ
@@ -113,7 +110,7 @@ module _ (es : List ConstValue) (names : List (List ℕ)) (same : map entry_name
       let found = position-Some (bytes_eq n) names name.0 [] at.at in
       let within : name.0 < length es = omega (arith, ap length same, length-map entry_name es, found.0) in
       constant_at es n name.0 [] within (subst (λ (ns : List (List ℕ)). bytes_eq n (get_or ns name.0 []) ≡ true) (sym same) found.1)
-          (λ k l. subst (λ (ns : List (List ℕ)). bytes_eq n (get_or ns k []) ≡ false) (sym same) (found.2 k l))
+      (λ k l. subst (λ (ns : List (List ℕ)). bytes_eq n (get_or ns k []) ≡ false) (sym same) (found.2 k l))
 
   -- a right side has the value of its form
   form_value : (o : Operand) (form : Form) → form_of names o ≡ Some form → value (constant es) f (operand_term o) ≡ optional_value v form.base +ℚ whole form.offset
@@ -139,9 +136,9 @@ module _ (es : List ConstValue) (names : List (List ℕ)) (same : map entry_name
       → optional_value v (compared rel name form).left -ℚ optional_value v (compared rel name form).right ≡ a -ℚ optional_value v form.base
   sides name form rel a e = (elim (is_base name form.base) as (λ t. is_base name form.base ≡ t
       → optional_value v (cond t None (Some name)) -ℚ optional_value v (cond t None form.base) ≡ a -ℚ optional_value v form.base) [
-    | true ↦ λ t. +ℚ-neg_ℚ (whole (pos 0)) ∙ sym (+ℚ-neg_ℚ a) ∙ ap (λ x. a -ℚ x) (e ∙ same_base name form.base v t)
-    | false ↦ λ t. ap (λ x. x -ℚ optional_value v form.base) (sym e)
-  ]) refl
+        | true ↦ λ t. +ℚ-neg_ℚ (whole (pos 0)) ∙ sym (+ℚ-neg_ℚ a) ∙ ap (λ x. a -ℚ x) (e ∙ same_base name form.base v t)
+        | false ↦ λ t. ap (λ x. x -ℚ optional_value v form.base) (sym e)
+      ]) refl
 
   module _ (wholes : (k : ℕ) → is_whole (name_value v k) ≡ true) where
     base_whole : (base : Option Name) → is_whole (optional_value v base) ≡ true
@@ -154,8 +151,11 @@ module _ (es : List ConstValue) (names : List (List ℕ)) (same : map entry_name
     to_literal Le a name form e h =
         inl (refl, subst (λ d. d ≤ℚ whole form.offset) (sym (sides name form Le a e)) (le-difference form.offset a (optional_value v form.base) (le_ℚ-true _ _ h)))
     to_literal Lt a name form e h =
-        inl (refl, subst (λ d. d ≤ℚ whole (bound_of Lt form.offset)) (sym (sides name form Lt a e))
-            (lt-difference form.offset a (optional_value v form.base) (subst (λ x. is_whole x ≡ true) (sym e) (wholes name.0)) (base_whole form.base) (lt_ℚ-true _ _ h)))
+        inl (
+          refl,
+          subst (λ d. d ≤ℚ whole (bound_of Lt form.offset)) (sym (sides name form Lt a e))
+              (lt-difference form.offset a (optional_value v form.base) (subst (λ x. is_whole x ≡ true) (sym e) (wholes name.0)) (base_whole form.base) (lt_ℚ-true _ _ h)),
+        )
     to_literal Eq a name form e h =
         inr (sides name form Eq a e ∙ eq-difference form.offset a (optional_value v form.base) (eq_ℚ-true _ _ h))
 
@@ -168,11 +168,11 @@ module _ (es : List ConstValue) (names : List (List ℕ)) (same : map entry_name
         le_ℚ-from _ _ (subst (λ x. a ≤ℚ x) s (≤ℚ_refl a))
     from_literal Lt a name form e (inl h) =
         lt_ℚ-from _ _ (difference-lt form.offset a (optional_value v form.base) (subst (λ x. is_whole x ≡ true) (sym e) (wholes name.0)) (base_whole form.base)
-            (subst (λ d. d ≤ℚ whole (bound_of Lt form.offset)) (sides name form Lt a e) h.1))
+        (subst (λ d. d ≤ℚ whole (bound_of Lt form.offset)) (sides name form Lt a e) h.1))
     from_literal Lt a name form e (inr h) =
         let s : a -ℚ optional_value v form.base ≡ whole (bound_of Lt form.offset) = sym (sides name form Lt a e) ∙ h in
         lt_ℚ-from _ _ (difference-lt form.offset a (optional_value v form.base) (subst (λ x. is_whole x ≡ true) (sym e) (wholes name.0)) (base_whole form.base)
-            (subst (λ d. d ≤ℚ whole (bound_of Lt form.offset)) (sym s) (≤ℚ_refl (whole (bound_of Lt form.offset)))))
+        (subst (λ d. d ≤ℚ whole (bound_of Lt form.offset)) (sym s) (≤ℚ_refl (whole (bound_of Lt form.offset)))))
     from_literal Eq a name form e (inl h) = let no = h.0 in absurd (cc)
     from_literal Eq a name form e (inr h) = eq_ℚ-from _ _ (difference-eq form.offset a (optional_value v form.base) (sym (sides name form Eq a e) ∙ h))
 
@@ -194,7 +194,7 @@ module _ (es : List ConstValue) (names : List (List ℕ)) (same : map entry_name
         by true e rest =
             let is = all.0.2 in
             inl (subst (IsTrueAt v) (sym all.0.1) (subst (IdxIsTrue v) (sym is.is)
-                (to_literal c.rel (constant es c.left) is.name is.form (constant_value c.left is.name is.left) (right_side c all.0.0 is true e))))
+            (to_literal c.rel (constant es c.left) is.name is.form (constant_value c.left is.name is.left) (right_side c all.0.0 is true e))))
         by false e rest = inr (rest (sym (ap (λ b. b || one_true (constant es) f (map atom_of cs)) e) ∙ h))
 
     pub query_is_true : (q : List Comparison) (lits : List Lit) → AreLits names q lits → LineIsTrue v lits → one_true (constant es) f (map atom_of q) ≡ true
@@ -204,7 +204,7 @@ module _ (es : List ConstValue) (names : List (List ℕ)) (same : map entry_name
     query_is_true (c ∷ cs) (l ∷ ls) all (inl h) =
         let is = all.0.2 in
         let t = from_literal c.rel (constant es c.left) is.name is.form (constant_value c.left is.name is.left)
-            (subst (IdxIsTrue v) is.is (subst (IsTrueAt v) all.0.1 h)) in
+        (subst (IdxIsTrue v) is.is (subst (IsTrueAt v) all.0.1 h)) in
         let e = (λ i. compares (cmp_of c.rel) (name_term_value (constant es) f c.left i) (form_value c.right is.form is.right i)) ∙ t in
         ap (λ b. b || one_true (constant es) f (map atom_of cs)) e
     query_is_true (c ∷ cs) (l ∷ ls) all (inr h) = or_right _ (query_is_true cs ls all.1 h)

@@ -2,7 +2,6 @@
 use Rattle.std.specs.Prelude.{◌≡◌, ◌&&◌, ◌||◌, Bool, true, false, not, ℕ, List, [], ◌∷◌, codes}
 use Rattle.std.specs.Str.{bytes_eq}
 use Rattle.std.specs.List.{list_all}
-
 pub use Rattle.hp_text.specs.Bytes.{is_digit, is_letter, is_name_byte}
 pub use Rattle.hp_text.specs.Numeral.{IsNumeral, numeral_value}
 

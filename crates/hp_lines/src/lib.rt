@@ -3,12 +3,14 @@
 
 mod bytes;
 mod ground;
+mod laws;
 mod names;
 mod parts;
 mod reading;
 mod syntax;
 
 pub use ground::{GroundRead, ground_of};
+pub use laws::{structures_give_values, values_give_a_structure};
 pub use names::NameIndex;
 pub use reading::{SourceRead, read_source};
 pub use syntax::{Comparison, Operand, Source};

@@ -1,4 +1,4 @@
-use Rattle.std.proofs.Common.{◌≡◌, ◌∙◌, ap, sym, List, ℕ, pos, to_z, of_z, arith}
+use Rattle.std.proofs.Common.{◌≡◌, ◌∙◌, ap, sym, List, ℕ, pos, neg_ℤ, ◌-ℤ◌, to_z, of_z, arith}
 use Rattle.std.specs.Int.{w128}
 use Rattle.std.proofs.lemmas.Int.{ints}
 use Rattle.std.specs.Prelude.{option_map}
@@ -14,4 +14,8 @@ returns-in-Sum-clause-form c =
     rw c.in-Sum.is (c.above-in-Sum.ensures.form ∙ (λ i. option_map (above (v i)) (number c.args.index.now (n i))))
 
 pub returns-in-Difference-clause-form : goal.returns-in-Difference-clause-form
-returns-in-Difference-clause-form c = let f = c.above-in-Difference.ensures.form in ?
+returns-in-Difference-clause-form c =
+    let r = c.numeral-offset.result in
+    let bits : to_z w128 (of_z w128 (pos 0 -ℤ to_z w128 (of_z w128 r))) ≡ neg_ℤ r = omega (arith, ints) in
+    let v = bits ∙ ap neg_ℤ (c.numeral-offset.ensures.value ∙ ap (λ (d : List ℕ). pos (numeral_value d)) c.as_slice-in-Difference.ensures) in
+    rw c.in-Difference.is (c.above-in-Difference.ensures.form ∙ (λ i. option_map (above (v i)) (number c.args.index.now (c.as_slice-in-Difference-2.ensures i))))

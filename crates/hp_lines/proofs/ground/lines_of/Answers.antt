@@ -8,7 +8,7 @@ use Rattle.hp_lines.proofs.ground.lines_of.Goals as goal
 pub line_of-requires-clause-comparisons : goal.line_of-requires-clause-comparisons
 line_of-requires-clause-comparisons c =
     subst AreComparisons (sym (c.as_slice.ensures ∙ c.index-queries-at.is))
-        (query_at c.args.queries.now c.loop-at.at c.index-queries-at.result (omega arith) c.requires.queries)
+    (query_at c.args.queries.now c.loop-at.at c.index-queries-at.result (omega arith) c.requires.queries)
 
 pub returns-in-Refused : goal.returns-in-Refused
 returns-in-Refused c = λ all. c.in-Refused.ensures (subst (λ (q : List Comparison). AreDeclared c.args.index.now q) (sym (c.as_slice.ensures ∙ c.index-queries-at.is))
