@@ -15,3 +15,6 @@ pub use digits::numeral;
 pub use laws::one_list_of_tokens;
 pub use put::{put_text, put_whole};
 pub use token::{Kind, Token, TokenErr};
+
+#[cfg(test)]
+mod tests;
