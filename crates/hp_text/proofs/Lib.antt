@@ -5,3 +5,5 @@ pub mod Fronts
 pub mod Lexing
 pub mod LongestSigns
 pub mod LongestTokens
+pub mod Pieces
+pub mod Saying

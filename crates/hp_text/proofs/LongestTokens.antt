@@ -43,11 +43,12 @@ past_run p xs m h fits =
     let stops = prefix_len_stops p xs 0 (omega arith) in
     list_all_at p (take m xs) (prefix_len p xs) 0 (omega (arith, length-take-le m xs fits)) (ap p (get_or-take m xs (prefix_len p xs) 0 h) ∙ stops)
 
--- no sign begins with such a byte
-abbrev begins_with : (ℕ → Bool) → List ℕ → Bool
+-- the first byte is of the class
+abbrev pub begins_with : (ℕ → Bool) → List ℕ → Bool
 begins_with p [] = false
 begins_with p (c ∷ cs) = p c
 
+-- no sign begins with such a byte
 no_sign_among : (p : ℕ → Bool) (b : ℕ) (rest : List ℕ) (fs : List Fixed) → p b ≡ true → list_all (λ (f : Fixed). not (begins_with p f.text)) fs ≡ true → is_among fs (b ∷ rest) ≡ false
 no_sign_among p b rest [] e free = refl
 no_sign_among p b rest (f ∷ fs) e free =

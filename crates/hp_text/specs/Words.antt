@@ -6,6 +6,13 @@ use Rattle.hp_text.specs.Bytes.{is_letter, is_name_byte}
 use Rattle.hp_text.specs.declared.token.Kind.{Kind}
 use Rattle.hp_text.specs.declared.token.Kind.TheVariants as kinds
 
+-- the kind of a reserved word or a sign
+abbrev pub is_fixed : Kind → Bool
+is_fixed kinds.Name = false
+is_fixed kinds.Numeral = false
+is_fixed kinds.End = false
+is_fixed k = true
+
 -- a text that is always the same token
 pub record Fixed : Type 0 where
   pub text : List ℕ
