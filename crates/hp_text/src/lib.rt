@@ -12,6 +12,9 @@ mod words;
 
 pub use cursor::Cursor;
 pub use digits::numeral;
-pub use laws::one_list_of_tokens;
+pub use laws::{one_list_of_tokens, tokens_say_words};
 pub use put::{put_text, put_whole};
 pub use token::{Kind, Token, TokenErr};
+
+#[cfg(test)]
+mod tests;
