@@ -9,7 +9,7 @@ use Rattle.hp_search.proofs.truth.index_value.Goals as goal
 pub returns-then-at-len-clause-value : goal.returns-then-at-len-clause-value
 returns-then-at-len-clause-value c =
     let e : c.num.result ≡ to_z w128 (of_z w128 c.num.result) = omega (arith, ints) in
-    ap (optional_value c.args.v.now.values) c.in-Some.is ∙ index_given c.args.v.now.values c.in-Some.name.0 _ c.num.result c.requires c.get.ensures c.num.ensures ∙ ap whole e
+    ap (optional_value c.args.v.now.values) c.in-Some.is ∙ index_given c.args.v.now.values c.in-Some.name.0 _ c.num.result c.requires c.get.ensures c.num.ensures.value ∙ ap whole e
 
 pub returns-then-at-len-clause-small : goal.returns-then-at-len-clause-small
-returns-then-at-len-clause-small c = index_small c.args.v.now.values c.in-Some.name.0 _ c.num.result c.requires c.get.ensures c.num.ensures
+returns-then-at-len-clause-small c = index_small c.args.v.now.values c.in-Some.name.0 _ c.num.result c.requires c.get.ensures c.num.ensures.value

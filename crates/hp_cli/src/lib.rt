@@ -1,0 +1,12 @@
+//! The top call of the program: words, bytes in, bytes out, and the exit status.
+#![tactic(auto)]
+
+mod answer;
+mod deciding;
+mod running;
+mod transfer;
+mod words;
+
+pub use answer::Status;
+pub use running::run;
+pub use words::Command;
