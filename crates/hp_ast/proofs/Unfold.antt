@@ -1,12 +1,12 @@
 -- The text of a term of each kind at a place, from the texts of its parts.
 use Rattle.std.proofs.Common.{◌≡◌, ℕ, List, [], ◌∷◌, ◌++◌, map, ap, sym, refl, ◌∙◌}
 use Rattle.std.specs.Prelude.{codes}
-use Rattle.std.specs.List.{flat_map, join_by}
+use Rattle.std.specs.List.{join_by}
 use Rattle.std.proofs.lemmas.List.Folds.{flat_map-map}
 use Rattle.hp_math.specs.Rational.{ℚ}
 use Rattle.hp_ast.specs.declared.printing.Place.{Place}
 use Rattle.hp_ast.specs.declared.printing.Place.TheVariants.{Whole, Operand, Factor}
-use Rattle.hp_ast.specs.declared.term.Term.{Term, fold-Term, fold-roll-Term, roll-Term, map-Term}
+use Rattle.hp_ast.specs.declared.term.Term.{Term, fold-roll-Term, roll-Term, map-Term}
 use Rattle.hp_ast.specs.declared.term.Term.TheOpen.{Term-F}
 use Rattle.hp_ast.specs.declared.term.Term.TheViews.{Apply, Add, Sub, Neg, Scale}
 use Rattle.hp_ast.specs.declared.term.Term.TheVariants.{rolls-Apply, rolls-Add, rolls-Sub, rolls-Neg, rolls-Scale}

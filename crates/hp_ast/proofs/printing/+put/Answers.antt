@@ -1,9 +1,9 @@
-use Rattle.std.proofs.Common.{arith, ap}
+use Rattle.std.proofs.Common.{arith}
 use Rattle.std.specs.Prelude.{codes}
 use Rattle.std.proofs.lemmas.Grind.{common_steps}
 use Rattle.hp_ast.proofs.Unfold.{text-Apply, text-Add, text-Sub, text-Neg, text-Scale}
 use Rattle.hp_ast.proofs.Join.{join_first, join_more}
-use Rattle.hp_ast.specs.Printing.{term_text, text_at}
+use Rattle.hp_ast.specs.Printing.{term_text}
 use Rattle.hp_ast.proofs.printing.+put.Goals as goal
 
 pub put_arguments-loop-i-preserved : goal.put_arguments-loop-i-preserved
