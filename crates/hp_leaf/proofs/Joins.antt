@@ -1,5 +1,5 @@
 -- The check of a conflict goes along its equalities.
-use Rattle.std.proofs.Common.{◌≡◌, ℕ, ◌+◌, ◌<◌, ◌⊎◌, inl, inr, sym, ap, subst, List, [], ◌∷◌, length, drop, get_or, Option, add-one}
+use Rattle.std.proofs.Common.{◌≡◌, ℕ, ◌+◌, ◌<◌, ◌⊎◌, inl, inr, sym, ap, subst, List, ◌∷◌, length, drop, get_or, Option, add-one}
 use Rattle.std.proofs.Math.Seq.{drop-cons}
 use Rattle.hp_base.specs.declared.literal.Name.{Name}
 use Rattle.hp_base.specs.declared.literal.PtrLit.{PtrLit}

@@ -1,8 +1,7 @@
 -- Trees in preorder: the nodes are read one by one, each at the first of the places that wait.
-use Rattle.std.specs.Prelude.{◌≡◌, ℕ, zero, suc, ◌-◌, ◌*◌, ◌<◌, ◌≤◌, List, [], ◌∷◌, ◌++◌, length, map, pos, Option, Some, None, slice_get, slice_index_or, true, false}
+use Rattle.std.specs.Prelude.{◌≡◌, ℕ, zero, suc, ◌-◌, ◌*◌, ◌<◌, ◌≤◌, List, [], ◌∷◌, ◌++◌, length, map, pos, Option, Some, None, slice_get, slice_index_or, false}
 use Rattle.std.specs.List.{All}
 use Rattle.std.proofs.Math.ListN.{replicate}
-use Rattle.hp_math.specs.Rational.{ℚ, is_whole, whole, ◌≤ℚ◌}
 use Rattle.hp_base.specs.declared.literal.Lit.{Lit}
 use Rattle.hp_base.specs.declared.literal.Lit.TheVariants.{Idx}
 use Rattle.hp_base.specs.declared.line.Line.{Line}

@@ -1,5 +1,5 @@
 -- Rows of a path followed by those of lines of one literal, and the tree over the latter.
-use Rattle.std.proofs.Common.{◌≡◌, ℕ, zero, suc, ◌+◌, ◌-◌, ◌<◌, ◌≤◌, refl, sym, ◌∙◌, ap, subst, arith, List, [], ◌∷◌, ◌++◌, length, map, take, get_or, Option, Some, None, append_assoc, length-append}
+use Rattle.std.proofs.Common.{◌≡◌, ℕ, zero, suc, ◌+◌, ◌-◌, ◌<◌, ◌≤◌, refl, sym, ◌∙◌, ap, subst, arith, List, [], ◌∷◌, ◌++◌, length, map, take, get_or, Some, append_assoc, length-append}
 use Rattle.std.specs.Prelude.{slice_get, slice_index_or}
 use Rattle.std.specs.List.{All}
 use Rattle.std.proofs.lemmas.Option.{slice_get-get_or, slice_get_within, get_or_from_slice_get}
@@ -21,7 +21,7 @@ use Rattle.hp_leaf.specs.Tree.{lits_at, lit_at, lits_of, nothing, Place, place_l
 use Rattle.hp_leaf.proofs.Singles.{AreSingles, first_of, singles_closed}
 use Rattle.hp_search.specs.declared.singles.Single.{Single}
 use Rattle.hp_search.specs.Rows.{AreRows, AreTheValues, IsRow, IsRowOver}
-use Rattle.hp_search.specs.Singles.{AreSinglesOf, AreStepsWithin, IsSingleOf, closing_tree, line_at, line_in, renumbered, single_row}
+use Rattle.hp_search.specs.Singles.{AreStepsWithin, IsSingleOf, closing_tree, line_at, line_in, renumbered, single_row}
 
 -- ---- lists
 one_only : {A : Type 0} (xs : List A) (x : A) → length xs ≡ 1 → slice_get xs 0 ≡ Some x → xs ≡ x ∷ []

@@ -1,7 +1,6 @@
 -- Literals over whole numbers, and their decision.
 use Rattle.std.specs.Prelude.{◌≡◌, ℕ, ◌^◌, List, [], ◌∷◌, ℤ, pos, ◌+ℤ◌, ◌-ℤ◌, ◌≤ℤ◌, Option, Some, None, slice_get, slice_set, true}
 use Rattle.std.specs.List.{All}
-use Rattle.hp_math.specs.Rational.{ℚ}
 use Rattle.hp_ast.specs.declared.problem.Sort.{Sort}
 use Rattle.hp_ast.specs.declared.problem.Sort.TheVariants.{Idx as IdxSort}
 use Rattle.hp_base.specs.declared.literal.Name.{Name}

@@ -1,4 +1,4 @@
-use Rattle.std.proofs.Common.{arith, ◌≤◌, false}
+use Rattle.std.proofs.Common.{◌≤◌, false}
 use Rattle.std.proofs.lemmas.List.Elements.{All-more}
 use Rattle.hp_base.specs.declared.proof.Step.{Step}
 use Rattle.hp_search.proofs.looking.are_within.Goals as goal

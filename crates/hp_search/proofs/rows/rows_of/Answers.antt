@@ -1,5 +1,5 @@
 use Rattle.hp_base.specs.Names.{sorts}
-use Rattle.hp_search.proofs.Closing.{rows_count, rows_more}
+use Rattle.hp_search.proofs.Closing.{rows_more}
 use Rattle.hp_search.proofs.rows.rows_of.Goals as goal
 
 pub loop-choice-preserved : goal.loop-choice-preserved

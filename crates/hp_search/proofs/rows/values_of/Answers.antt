@@ -1,4 +1,4 @@
-use Rattle.std.proofs.Common.{sym, ◌∙◌, ap, subst, pos, replicate, length}
+use Rattle.std.proofs.Common.{sym, ◌∙◌, ap, subst, pos, replicate}
 use Rattle.std.specs.List.{All}
 use Rattle.hp_math.specs.Rational.{whole}
 use Rattle.hp_diff.specs.Rows.{IsSmallWhole}
