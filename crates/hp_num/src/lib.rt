@@ -5,6 +5,8 @@
 
 mod frac;
 mod list;
+#[cfg(test)]
+mod tests;
 mod text;
 mod whole;
 mod wide;

@@ -16,7 +16,7 @@ pub returns-then-num-lt0 : goal.returns-then-num-lt0
 returns-then-num-lt0 c =
     let q = c.args.self in
     let s : q.num <ℤ pos 0 = (let a = c.num.ensures in let b = c.if-num-lt0.true in omega (arith, ints)) in
-    c.reduced.ensures ∙ (λ i. ratio ((c.negated.ensures ∙ ap neg_ℤ c.below.ensures) i) (unsigned_abs ((c.negated-then-num-lt0.ensures ∙ ap neg_ℤ c.top.ensures) i))) ∙ recip_neg q s
+    c.reduced.ensures ∙ (λ i. ratio ((c.negated-top.ensures ∙ ap neg_ℤ c.below.ensures) i) (unsigned_abs ((c.negated-below.ensures ∙ ap neg_ℤ c.top.ensures) i))) ∙ recip_neg q s
 
 pub returns-else-num-lt0 : goal.returns-else-num-lt0
 returns-else-num-lt0 c =
