@@ -1,7 +1,6 @@
 //! The text of a problem, put piece by piece at the end of one text.
-//! What the text of each part is, is said on the tree alone, in `specs/Printing.antt`.
-//!
-//! Where a call here wants memory and has none, a part of its text may be in `out` already, behind what was there.
+//! What the text of each part is, is said on the tree alone, in `specs/Printing.antt`: a tree has one text, whether
+//! or not a reader would make it.
 
 ghost use Rattle.std.specs.Prelude.{◌≡◌, ◌++◌, codes, IfOk, OnOk};
 ghost use Rattle.std.specs.List.{join_by, flat_map};
@@ -13,8 +12,10 @@ use hp_num::{Frac, Text};
 use hp_text::{put_text, put_whole};
 use std::alloc::{AllocError, Global};
 
-/// The text of a problem: the line of its profile, then one line for each declaration and for each clause in their
-/// order, each line with a line feed behind it. An `Err` comes where memory is short.
+/// The text of a problem: the line of its profile, then one line for each declaration and then for each clause, in
+/// their order, each line with a line feed behind it.
+///
+/// An `Err` comes where memory is short.
 pub fn print(alloc: Global, problem: &Problem) -> Result<Text, AllocError>
     ensures { IfOk result (λ text. text ≡ problem_text problem.now) }
 {
@@ -28,7 +29,9 @@ pub fn print(alloc: Global, problem: &Problem) -> Result<Text, AllocError>
 }
 
 /// Puts a number at the end of `out`: its numerator in decimal digits, with `-` in front of a negative one, and behind
-/// a `/` its denominator, unless that is 1. An `Err` comes where memory is short.
+/// a `/` its denominator, unless that is 1.
+///
+/// An `Err` comes where memory is short, and then a part of the number may stand at the end of `out`.
 pub fn put_frac(out: &mut Text, value: Frac) -> Result<(), AllocError>
     ensures { OnOk result (out.new ≡ out.old ++ frac_text value) }
 {
@@ -40,14 +43,18 @@ pub fn put_frac(out: &mut Text, value: Frac) -> Result<(), AllocError>
     Ok(())
 }
 
-/// Puts a term at the end of `out`, as it stands where a whole term may stand. An `Err` comes where memory is short.
+/// Puts a term at the end of `out`, as it stands where no parentheses are asked for.
+///
+/// An `Err` comes where memory is short, and then a part of the term may stand at the end of `out`.
 pub fn put_term(out: &mut Text, term: &Term) -> Result<(), AllocError>
     ensures { OnOk result (out.new ≡ out.old ++ term_text term.now) }
 {
     put_at(out, term, Place::Whole)
 }
 
-/// Puts an atom at the end of `out`, with one blank on each side of its relation. An `Err` comes where memory is short.
+/// Puts an atom at the end of `out`, with one blank on each side of its relation.
+///
+/// An `Err` comes where memory is short, and then a part of the atom may stand at the end of `out`.
 pub fn put_atom(out: &mut Text, atom: &Atom) -> Result<(), AllocError>
     ensures { OnOk result (out.new ≡ out.old ++ atom_text atom.now) }
 {

@@ -1,5 +1,5 @@
 -- No values make all literals of a cycle true that adds to less than 0.
-use Rattle.std.proofs.Common.{◌≡◌, ℕ, suc, ◌⊎◌, inl, inr, ℤ, pos, neg_ℤ, ◌+ℤ◌, ◌*ℤ◌, ◌<ℤ◌, sym, ap, subst, arith, List, [], ◌∷◌, Bool, true, false, Option}
+use Rattle.std.proofs.Common.{◌≡◌, suc, ◌⊎◌, inl, inr, ℤ, pos, neg_ℤ, ◌+ℤ◌, ◌*ℤ◌, ◌<ℤ◌, sym, ap, subst, arith, List, [], ◌∷◌, Bool, true, false, Option}
 use Rattle.std.proofs.lemmas.Int.{ints}
 use Rattle.std.specs.List.{All}
 use Rattle.hp_math.specs.Rational.{ℚ, whole, ◌-ℚ◌, ◌≤ℚ◌}
@@ -12,7 +12,7 @@ use Rattle.hp_base.specs.declared.literal.Lit.{Lit}
 use Rattle.hp_base.specs.declared.literal.Lit.TheVariants.{Idx as IdxLiteral}
 use Rattle.hp_base.specs.declared.proof.Step.{Step}
 use Rattle.hp_base.specs.Truth.{Values, IsTrueAt, IdxIsTrue, optional_value}
-use Rattle.hp_base.specs.Cycle.{turned, AreRowsOf, Leads, bound_sum, IsValidIdx, NoIdxLeaf}
+use Rattle.hp_base.specs.Cycle.{turned, AreRowsOf, Leads, bound_sum, NoIdxLeaf}
 use Rattle.hp_base.proofs.Paths.{lit_true}
 
 -- ---- differences

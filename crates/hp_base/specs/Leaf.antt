@@ -1,11 +1,11 @@
 -- A combination of literals over fractions that adds to nothing below 0: the evidence against them.
-use Rattle.std.specs.Prelude.{◌≡◌, ℕ, ◌<◌, List, [], ◌∷◌, ◌⊎◌, map, ℤ, pos, ◌+ℤ◌, ◌*ℤ◌, ◌<ℤ◌, Option, Some, None, slice_get, nat_eq, if◌then◌else◌}
-use Rattle.std.specs.List.{All, Contains}
-use Rattle.hp_base.specs.declared.literal.Rel.TheVariants.{Le, Lt, Eq}
+use Rattle.std.specs.Prelude.{◌≡◌, ℕ, ◌<◌, List, [], ◌∷◌, ◌⊎◌, ℤ, pos, ◌+ℤ◌, ◌*ℤ◌, ◌<ℤ◌, nat_eq, if◌then◌else◌}
+use Rattle.std.specs.List.{All}
+use Rattle.hp_base.specs.declared.literal.Rel.TheVariants.{Lt, Eq}
 use Rattle.hp_base.specs.declared.literal.Part.{Part}
 use Rattle.hp_base.specs.declared.literal.NumLit.{NumLit}
 use Rattle.hp_base.specs.declared.literal.Lit.{Lit}
-use Rattle.hp_base.specs.declared.literal.Lit.TheVariants.{Num, Idx, Ptr}
+use Rattle.hp_base.specs.declared.literal.Lit.TheVariants.{Num}
 use Rattle.hp_base.specs.declared.proof.Share.{Share}
 use Rattle.hp_base.specs.Truth.{Values, IsTrueAt}
 use Rattle.hp_base.specs.Cycle.{IsLit}

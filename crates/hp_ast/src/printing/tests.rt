@@ -58,16 +58,16 @@ fn sample(alloc: Global, kind: usize) -> Result<Term, AllocError> {
 }
 
 /// The text of each sample: as a whole term, as an operand, and as a factor.
-const TEXTS: [[&str; 3]; 9] = [
-    ["7", "7", "(7)"],
-    ["-3/4", "-3/4", "(-3/4)"],
-    ["null", "null", "null"],
-    ["x", "x", "x"],
-    ["f(x, y)", "f(x, y)", "f(x, y)"],
-    ["x + y", "(x + y)", "(x + y)"],
-    ["x - y", "(x - y)", "(x - y)"],
-    ["-x", "(-x)", "(-x)"],
-    ["2 * x", "2 * x", "(2 * x)"],
+const TEXTS: [[&[u8]; 3]; 9] = [
+    [b"7", b"7", b"(7)"],
+    [b"-3/4", b"-3/4", b"(-3/4)"],
+    [b"null", b"null", b"null"],
+    [b"x", b"x", b"x"],
+    [b"f(x, y)", b"f(x, y)", b"f(x, y)"],
+    [b"x + y", b"(x + y)", b"(x + y)"],
+    [b"x - y", b"(x - y)", b"(x - y)"],
+    [b"-x", b"(-x)", b"(-x)"],
+    [b"2 * x", b"2 * x", b"(2 * x)"],
 ];
 
 /// The copy of the term is put as these pieces in a row.
@@ -75,11 +75,11 @@ fn expect_text(
     rt: &impl Abort,
     alloc: Global,
     term: &Term,
-    pieces: [&str; 3],
+    pieces: [&[u8]; 3],
 ) -> Result<(), AllocError> {
     let mut want = Text::new(alloc);
     for piece in pieces {
-        want.extend_from_slice(piece.as_bytes())?;
+        want.extend_from_slice(piece)?;
     }
     let mut out = Text::new(alloc);
     put_term(&mut out, &term.copy(alloc)?)?;
@@ -87,25 +87,44 @@ fn expect_text(
     Ok(())
 }
 
+/// What stands before and behind each sample, in the order of `place`.
+const FORMS: [[&[u8]; 2]; 7] = [
+    [b"", b" + z"],
+    [b"", b" - z"],
+    [b"f(", b", z)"],
+    [b"z + ", b""],
+    [b"z - ", b""],
+    [b"-", b""],
+    [b"2 * ", b""],
+];
+
+/// The term as a part of another.
+fn place(alloc: Global, form: usize, term: Term) -> Result<Term, AllocError> {
+    let z = name(alloc, b"z")?;
+    match form {
+        0 => sum(alloc, term, z),
+        1 => difference(alloc, term, z),
+        2 => application(alloc, term, z),
+        3 => sum(alloc, z, term),
+        4 => difference(alloc, z, term),
+        5 => negation(alloc, term),
+        _ => double(alloc, term),
+    }
+}
+
 #[test]
 fn parentheses_of_each_term_at_each_place(rt: HostRuntime) -> Result<(), Fail> {
     let alloc = rt.alloc();
     for (kind, [whole, operand, factor]) in TEXTS.into_iter().enumerate() {
-        let z = name(alloc, b"z")?;
-        let left = sum(alloc, sample(alloc, kind)?, z.copy(alloc)?)?;
-        expect_text(&rt, alloc, &left, ["", whole, " + z"])?;
-        let left = difference(alloc, sample(alloc, kind)?, z.copy(alloc)?)?;
-        expect_text(&rt, alloc, &left, ["", whole, " - z"])?;
-        let right = sum(alloc, z.copy(alloc)?, sample(alloc, kind)?)?;
-        expect_text(&rt, alloc, &right, ["z + ", operand, ""])?;
-        let right = difference(alloc, z.copy(alloc)?, sample(alloc, kind)?)?;
-        expect_text(&rt, alloc, &right, ["z - ", operand, ""])?;
-        let negated = negation(alloc, sample(alloc, kind)?)?;
-        expect_text(&rt, alloc, &negated, ["-", operand, ""])?;
-        let doubled = double(alloc, sample(alloc, kind)?)?;
-        expect_text(&rt, alloc, &doubled, ["2 * ", factor, ""])?;
-        let applied = application(alloc, sample(alloc, kind)?, z)?;
-        expect_text(&rt, alloc, &applied, ["f(", whole, ", z)"])?;
+        for (form, [before, behind]) in FORMS.into_iter().enumerate() {
+            let text = match form {
+                0..=2 => whole,
+                3..=5 => operand,
+                _ => factor,
+            };
+            let term = place(alloc, form, sample(alloc, kind)?)?;
+            expect_text(&rt, alloc, &term, [before, text, behind])?;
+        }
     }
     Ok(())
 }
@@ -148,8 +167,8 @@ fn function(alloc: Global, sorts: &[Sort], value: Sort, level: u64) -> Result<De
     })
 }
 
-/// A declaration and a clause of each form.
-fn problem(alloc: Global) -> Result<Problem, AllocError> {
+/// A declaration of each form.
+fn decls(alloc: Global) -> Result<List<Decl>, AllocError> {
     let mut decls = List::new(alloc);
     decls.push(Decl::Const {
         name: Text::from_slice(alloc, b"c")?,
@@ -157,31 +176,42 @@ fn problem(alloc: Global) -> Result<Problem, AllocError> {
     })?;
     decls.push(function(alloc, &[Sort::Num], Sort::Idx, 3)?)?;
     decls.push(function(alloc, &[Sort::Idx, Sort::Ptr, Sort::Num], Sort::Num, 16)?)?;
-    let mut clauses = List::new(alloc);
-    for (query, sorts, guard, head) in [
-        (
-            false,
-            &[Sort::Num, Sort::Idx, Sort::Ptr][..],
-            &[Cmp::Le, Cmp::Lt][..],
-            &[Cmp::Eq, Cmp::Ne][..],
-        ),
-        (false, &[Sort::Num][..], &[Cmp::Ge][..], &[][..]),
-        (false, &[][..], &[][..], &[Cmp::Gt][..]),
-        (true, &[][..], &[Cmp::Gt][..], &[Cmp::Ge][..]),
-        (true, &[][..], &[][..], &[][..]),
-    ] {
-        clauses.push(Clause {
-            query,
-            vars: vars(alloc, sorts)?,
-            guard: atoms(alloc, guard)?,
-            head: atoms(alloc, head)?,
-        })?;
-    }
-    Ok(Problem {
-        profile: 2,
-        decls,
-        clauses,
+    Ok(decls)
+}
+
+fn clause(
+    alloc: Global,
+    sorts: &[Sort],
+    guard: &[Cmp],
+    head: &[Cmp],
+) -> Result<Clause, AllocError> {
+    Ok(Clause {
+        query: false,
+        vars: vars(alloc, sorts)?,
+        guard: atoms(alloc, guard)?,
+        head: atoms(alloc, head)?,
     })
+}
+
+fn query(alloc: Global, guard: &[Cmp], head: &[Cmp]) -> Result<Clause, AllocError> {
+    Ok(Clause {
+        query: true,
+        vars: List::new(alloc),
+        guard: atoms(alloc, guard)?,
+        head: atoms(alloc, head)?,
+    })
+}
+
+/// A clause of each form.
+fn clauses(alloc: Global) -> Result<List<Clause>, AllocError> {
+    let mut clauses = List::new(alloc);
+    let sorts = [Sort::Num, Sort::Idx, Sort::Ptr];
+    clauses.push(clause(alloc, &sorts, &[Cmp::Le, Cmp::Lt], &[Cmp::Eq, Cmp::Ne])?)?;
+    clauses.push(clause(alloc, &[Sort::Num], &[Cmp::Ge], &[])?)?;
+    clauses.push(clause(alloc, &[], &[], &[Cmp::Gt])?)?;
+    clauses.push(query(alloc, &[Cmp::Gt], &[Cmp::Ge])?)?;
+    clauses.push(query(alloc, &[], &[])?)?;
+    Ok(clauses)
 }
 
 #[test]
@@ -196,7 +226,11 @@ fn a_problem_and_its_copy_have_the_text(rt: HostRuntime) -> Result<(), Fail> {
         clause [] x > y;\n\
         query x > y -> x >= y;\n\
         query false;\n";
-    let original = problem(alloc)?;
+    let original = Problem {
+        profile: 2,
+        decls: decls(alloc)?,
+        clauses: clauses(alloc)?,
+    };
     let copy = original.copy(alloc)?;
     assert_eq!(rt; print(alloc, &original)?.as_slice(), want.as_bytes());
     assert_eq!(rt; print(alloc, &copy)?.as_slice(), want.as_bytes());
