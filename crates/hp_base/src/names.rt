@@ -126,6 +126,22 @@ impl Names {
         &self.declared.get(n.0 as usize).name
     }
 
+    /// The constants, in the order of declarations.
+    pub fn constants(&self) -> &[Constant]
+        ensures constants { result.now ≡ self.now.constants }
+        ensures few { length result.now ≤ 4000 }
+    {
+        self.declared.as_slice()
+    }
+
+    /// The definitions, in the order of their making.
+    pub fn definitions(&self) -> &[Def]
+        ensures definitions { result.now ≡ self.now.definitions }
+        ensures few { length result.now ≤ 4000 }
+    {
+        self.made.as_slice()
+    }
+
     /// The signature of a function, by its place in the order of declarations, counted from 0.
     pub fn signature(&self, func: u32) -> &Signature
         requires { func < length self.now.signatures }
