@@ -1,7 +1,7 @@
 -- A status is told by its number.
 use Rattle.std.proofs.Common.{◌≡◌, ℕ, refl, arith}
 use Rattle.hp_cli.specs.declared.answer.Status.{Status}
-use Rattle.hp_cli.specs.declared.answer.Status.TheVariants.{Usage, ReadFault, WriteFault, Sat, Memory, NotBuilt}
+use Rattle.hp_cli.specs.declared.answer.Status.TheVariants.{Usage, ReadFault, WriteFault, Sat, Spent, Memory, NotBuilt, Unsat}
 use Rattle.hp_cli.specs.Answer.{code}
 
 -- two statuses with one number are one
@@ -12,4 +12,6 @@ same_code WriteFault WriteFault e = refl
 same_code Sat Sat e = refl
 same_code Memory Memory e = refl
 same_code NotBuilt NotBuilt e = refl
+same_code Spent Spent e = refl
+same_code Unsat Unsat e = refl
 same_code _ _ e = absurd (omega arith)

@@ -1,3 +1,4 @@
 pub mod Transfers
 pub mod Codes
 pub mod Tells
+pub mod WordLists

@@ -6,7 +6,7 @@ use lib.Pointwise.{pointwise}
 use Rattle.std.specs.declared.option.Option.{Option}
 use Rattle.std.specs.Io.KnownBytes.{Appends}
 use Rattle.hp_cli.specs.declared.answer.Status.{Status}
-use Rattle.hp_cli.specs.declared.answer.Status.TheVariants.{Usage, ReadFault, WriteFault, Sat, Memory, NotBuilt}
+use Rattle.hp_cli.specs.declared.answer.Status.TheVariants.{Usage, ReadFault, WriteFault, Sat, Spent, Memory, NotBuilt, Unsat}
 use Rattle.hp_cli.specs.Answer.{ToldWritten, Told, Answers, Begins, Stands, IsWhole, IsNotBuilt}
 use Rattle.hp_ast.specs.declared.problem.Problem.{Problem}
 use Rattle.hp_lines.specs.Problem.{Spells}
@@ -37,6 +37,8 @@ told_all (Some x) (Some y) text P w p = (text, w, p)
 pub whole_stands : (words : List (List ℕ)) (bytes out : List ℕ) (s : Status) → IsWhole s → Answers words bytes out s → Stands words bytes out s
 whole_stands words bytes out Usage w a = a
 whole_stands words bytes out Sat w a = a
+whole_stands words bytes out Unsat w a = a
+whole_stands words bytes out Spent w a = a
 whole_stands words bytes out NotBuilt w a = a
 whole_stands words bytes out ReadFault w a = absurd w
 whole_stands words bytes out WriteFault w a = absurd w
@@ -54,26 +56,3 @@ told_source (Some bytes) before after Known P k f = f bytes k
 -- a text of the form has at most so many bytes
 pub long_not_built : (bytes : List ℕ) → 1048576 < length bytes → IsNotBuilt bytes
 long_not_built bytes h p s = let size = s.size in omega arith
-
-pub one_item : {A : Type 0} (xs : List A) (x : A) → 1 ≤ length xs → length xs < 2 → x ≡ get_or xs 0 x → xs ≡ x ∷ []
-one_item [] x lo hi e = absurd (omega arith)
-one_item (y ∷ []) x lo hi e = ap (λ z. z ∷ []) (sym e)
-one_item (y ∷ z ∷ zs) x lo hi e = absurd (omega arith)
-
-pub both_true : (a b : Bool) → (a && b) ≡ true → (a ≡ true) × (b ≡ true)
-both_true true b e = (refl, e)
-both_true false b e = absurd (cc)
-
--- the test of two texts
-pub same_text : (xs ys : List ℕ) → pointwise nat_eq xs ys ≡ true → xs ≡ ys
-same_text [] [] e = refl
-same_text [] (y ∷ ys) e = absurd (cc)
-same_text (x ∷ xs) [] e = absurd (cc)
-same_text (x ∷ xs) (y ∷ ys) e = (let b = both_true _ _ e in let h = eqb-true x y b.0 in let t = same_text xs ys b.1 in cc)
-
-pub text_same : (xs : List ℕ) → pointwise nat_eq xs xs ≡ true
-text_same [] = refl
-text_same (x ∷ xs) = (let h = eq-eqb x x refl in rw h (text_same xs))
-
-pub only_item : {A : Type 0} (x y : A) → ◌≡◌ {A = List A} (x ∷ []) (y ∷ []) → x ≡ y
-only_item x y e = cc

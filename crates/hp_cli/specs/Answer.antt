@@ -7,9 +7,17 @@ use Rattle.hp_base.specs.declared.names.Ground.{Ground}
 use Rattle.hp_model.specs.declared.structure.Structure.{Structure}
 use Rattle.hp_model.specs.Satisfies.{Satisfies}
 use Rattle.hp_model.specs.Written.{structure_text}
+use Rattle.std.specs.Fmt.{decimal}
+use Rattle.hp_base.specs.Names.{sorts}
+use Rattle.hp_leaf.specs.Tree.{IsSpent}
+use Rattle.hp_cert.specs.declared.refutation.Refutation.{Refutation}
+use Rattle.hp_cert.specs.Entries.{AreSplitLines, all_defs}
+use Rattle.hp_cert.specs.Refutation.{refutation_text}
+use Rattle.hp_cert.specs.Refutes.{Refutes}
+use Rattle.hp_lines.specs.Lines.{IsGroundOf}
 use Rattle.hp_lines.specs.Problem.{Spells}
 use Rattle.hp_cli.specs.declared.answer.Status.{Status}
-use Rattle.hp_cli.specs.declared.answer.Status.TheVariants.{Usage, ReadFault, WriteFault, Sat, Memory, NotBuilt}
+use Rattle.hp_cli.specs.declared.answer.Status.TheVariants.{Usage, ReadFault, WriteFault, Sat, Spent, Memory, NotBuilt, Unsat}
 use Rattle.hp_cli.specs.Words.{IsSolve, IsUsage}
 
 abbrev pub line : List ℕ → List ℕ
@@ -30,6 +38,31 @@ pub record Satisfiable (bytes text : List ℕ) : Type 0 where
   pub satisfied : Satisfies structure problem
   pub written : text ≡ line (codes "satisfiable") ++ structure_text structure
 
+-- The bytes spell a problem that no structure satisfies, and the text is a refutation: each definition and line in it is
+-- that of the problem with its number, each split is of a listed line, and the tree is whole with valid leaves.
+pub record Unsatisfiable (bytes text : List ℕ) : Type 0 where
+  pub problem : Problem
+  pub spelled : Spells bytes problem
+  pub lines : Ground
+  pub ground : IsGroundOf spelled.source lines
+  pub refutation : Refutation
+  pub refuted : Refutes lines refutation
+  pub none : (s : Structure) → Satisfies s problem → ⊥
+  pub written : text ≡ line (codes "unsatisfiable") ++ refutation_text refutation
+
+-- The bytes spell a problem, and the text is an honest tree of exactly so many splits and leaves, with an open place, below
+-- the definitions and the lines that it splits.
+pub record OutOfNodes (bytes text : List ℕ) (most : ℕ) : Type 0 where
+  pub problem : Problem
+  pub spelled : Spells bytes problem
+  pub lines : Ground
+  pub ground : IsGroundOf spelled.source lines
+  pub listing : Refutation
+  pub honest : IsSpent (sorts lines.names) lines.lines listing.tree most
+  pub defs : listing.defs ≡ all_defs lines.names
+  pub listed : AreSplitLines lines listing.tree listing.lines
+  pub written : text ≡ line (codes "spent " ++ decimal most) ++ refutation_text listing
+
 -- the bytes spell no problem of the form that is read so far
 abbrev pub IsNotBuilt : List ℕ → Type 0
 IsNotBuilt bytes = (p : Problem) → Spells bytes p → ⊥
@@ -41,13 +74,17 @@ code Usage = 2
 code ReadFault = 3
 code WriteFault = 4
 code Sat = 10
+code Spent = 11
 code Memory = 12
 code NotBuilt = 13
+code Unsat = 20
 
 -- a status with its whole text
 abbrev pub Answers : List (List ℕ) → List ℕ → List ℕ → Status → Type 0
 Answers words bytes text Usage = IsUsage words × (text ≡ usage_text)
 Answers words bytes text Sat = (most : ℕ) × IsSolve words most × Satisfiable bytes text
+Answers words bytes text Unsat = (most : ℕ) × IsSolve words most × Unsatisfiable bytes text
+Answers words bytes text Spent = (most : ℕ) × IsSolve words most × OutOfNodes bytes text most
 Answers words bytes text NotBuilt = (most : ℕ) × IsSolve words most × IsNotBuilt bytes × (text ≡ not_built_text)
 Answers words bytes text ReadFault = ⊥
 Answers words bytes text WriteFault = ⊥
@@ -67,6 +104,8 @@ Stands words bytes out WriteFault = Begins words bytes out
 Stands words bytes out Memory = (out ≡ []) ⊎ Begins words bytes out
 Stands words bytes out Usage = Answers words bytes out Usage
 Stands words bytes out Sat = Answers words bytes out Sat
+Stands words bytes out Unsat = Answers words bytes out Unsat
+Stands words bytes out Spent = Answers words bytes out Spent
 Stands words bytes out NotBuilt = Answers words bytes out NotBuilt
 
 -- the same for the number of a status
@@ -79,6 +118,8 @@ pub record Fits (words : List (List ℕ)) (bytes out : List ℕ) (number : ℕ) 
 abbrev pub IsWhole : Status → Type 0
 IsWhole Usage = Unit {0}
 IsWhole Sat = Unit {0}
+IsWhole Unsat = Unit {0}
+IsWhole Spent = Unit {0}
 IsWhole NotBuilt = Unit {0}
 IsWhole ReadFault = ⊥
 IsWhole WriteFault = ⊥
@@ -88,6 +129,8 @@ IsWhole Memory = ⊥
 abbrev pub IsVerdict : Status → Type 0
 IsVerdict Usage = ⊥
 IsVerdict Sat = Unit {0}
+IsVerdict Unsat = Unit {0}
+IsVerdict Spent = Unit {0}
 IsVerdict NotBuilt = ⊥
 IsVerdict ReadFault = ⊥
 IsVerdict WriteFault = ⊥

@@ -11,10 +11,14 @@ pub enum Status {
     WriteFault,
     /// A structure satisfies the problem.
     Sat,
+    /// The search came to its limit of nodes.
+    Spent,
     /// Memory was wanting.
     Memory,
     /// The input is not of a form that is read so far.
     NotBuilt,
+    /// No structure satisfies the problem.
+    Unsat,
 }
 
 impl Status {
@@ -30,8 +34,10 @@ impl Status {
             Status::ReadFault => 3,
             Status::WriteFault => 4,
             Status::Sat => 10,
+            Status::Spent => 11,
             Status::Memory => 12,
             Status::NotBuilt => 13,
+            Status::Unsat => 20,
         }
     }
 }

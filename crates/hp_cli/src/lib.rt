@@ -4,6 +4,8 @@
 mod answer;
 mod deciding;
 mod running;
+#[cfg(test)]
+mod tests;
 mod transfer;
 mod words;
 

@@ -10,7 +10,7 @@ ghost use Rattle.hp_cli.specs.Words.{IsSolve, IsUsage};
 use crate::answer::Status;
 use crate::deciding::decide;
 use crate::transfer::{Input, read_all, write_all};
-use crate::words::{Command, command};
+use crate::words::Command;
 use hp_io::{Sink, Source, WriteErr};
 use std::alloc::Global;
 
@@ -112,7 +112,7 @@ fn outcome<S: Source, K: Sink>(
         (λ bytes out. Stands (map string_bytes words.now) bytes out result) }
     ensures end { IsVerdict result → IsAtEnd (S.left source.new) }
 {
-    match command(words) {
+    match Command::from_words(words) {
         Command::Usage => usage(sink),
         Command::Solve(most) => solve(alloc, most, source, sink),
     }

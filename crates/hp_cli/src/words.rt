@@ -42,28 +42,30 @@ fn nodes(word: &String) -> Option<u64>
     }
 }
 
-/// The command that the words spell.
-pub fn command(words: &[String]) -> Command
-    ensures { IsCommand (map string_bytes words.now) result }
-{
-    match words {
-        [first] => {
-            if is_text(first, "solve") {
-                Command::Solve(DEFAULT_NODES)
-            } else {
-                Command::Usage
-            }
-        }
-        [first, option, number] => {
-            if is_text(first, "solve") && is_text(option, "--nodes") {
-                match nodes(number) {
-                    Some(most) => Command::Solve(most),
-                    None => Command::Usage,
+impl Command {
+    /// The command that the words spell.
+    pub fn from_words(words: &[String]) -> Command
+        ensures { IsCommand (map string_bytes words.now) result }
+    {
+        match words {
+            [first] => {
+                if is_text(first, "solve") {
+                    Command::Solve(DEFAULT_NODES)
+                } else {
+                    Command::Usage
                 }
-            } else {
-                Command::Usage
             }
+            [first, option, number] => {
+                if is_text(first, "solve") && is_text(option, "--nodes") {
+                    match nodes(number) {
+                        Some(most) => Command::Solve(most),
+                        None => Command::Usage,
+                    }
+                } else {
+                    Command::Usage
+                }
+            }
+            _ => Command::Usage,
         }
-        _ => Command::Usage,
     }
 }

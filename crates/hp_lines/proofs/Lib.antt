@@ -6,3 +6,4 @@ pub mod Grounding
 pub mod Numbers
 pub mod Semantics
 pub mod Models
+pub mod Scope

@@ -72,7 +72,7 @@ constant_at (c ∷ cs) name (suc i) d h e before =
 pub record IsAt (names : List (List ℕ)) (n : List ℕ) (name : Name) : Type 0 where
   pub at : position (bytes_eq n) names ≡ Some name.0
 
-numbered : (names : List (List ℕ)) (n : List ℕ) (name : Name) → number names n ≡ Some name → IsAt names n name
+pub numbered : (names : List (List ℕ)) (n : List ℕ) (name : Name) → number names n ≡ Some name → IsAt names n name
 numbered names n name = by (position (bytes_eq n) names) refl
   where
     by : (p : Option ℕ) → position (bytes_eq n) names ≡ p → option_map (λ at. record { 0 = at }) p ≡ Some name → IsAt names n name
@@ -88,7 +88,7 @@ pub record IsAbove (names : List (List ℕ)) (n : List ℕ) (k : ℤ) (f : Form)
   pub at : number names n ≡ Some base
   pub form : f ≡ above k base
 
-above_some : (names : List (List ℕ)) (n : List ℕ) (k : ℤ) (f : Form) → option_map (above k) (number names n) ≡ Some f → IsAbove names n k f
+pub above_some : (names : List (List ℕ)) (n : List ℕ) (k : ℤ) (f : Form) → option_map (above k) (number names n) ≡ Some f → IsAbove names n k f
 above_some names n k f = by (number names n) refl
   where
     by : (p : Option Name) → number names n ≡ p → option_map (above k) p ≡ Some f → IsAbove names n k f

@@ -1,5 +1,5 @@
 -- What reading a query and a whole text answers.
-use Rattle.std.specs.Prelude.{◌≡◌, ℕ, ◌≤◌, List, [], ◌∷◌, map, length}
+use Rattle.std.specs.Prelude.{◌≡◌, ℕ, List, [], ◌∷◌, map}
 use Rattle.hp_lines.specs.declared.reading.QueryAt.{QueryAt}
 use Rattle.hp_lines.specs.declared.reading.QueryAt.TheVariants as query
 use Rattle.hp_lines.specs.declared.reading.SourceRead.{SourceRead}
@@ -88,6 +88,6 @@ NamesFound consts names.Refused = AreDistinct consts → ⊥
 NamesFound consts names.Memory = Unit {0}
 
 abbrev pub GroundFound : Source → GroundRead → Type 0
-GroundFound s (ground.Read g) = IsGroundOf s g × AreDistinct s.consts × (length s.consts ≤ 4000) × (length s.queries ≤ 2000)
+GroundFound s (ground.Read g) = IsGroundOf s g × IsInScope s
 GroundFound s ground.Refused = IsInScope s → ⊥
 GroundFound s ground.Memory = Unit {0}

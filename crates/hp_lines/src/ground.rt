@@ -220,6 +220,7 @@ fn names_of(alloc: Global, consts: &[Text]) -> NamesRead
 
 /// The ground problem of a source. `Refused` comes exactly where a name is declared twice or used and not declared, or
 /// where there are more than 4,000 constants or 2,000 queries.
+#[tactic(auto, using(crate::proofs::Scope::all_declared))]
 pub fn ground_of(alloc: Global, source: &Source) -> GroundRead
     requires { IsSource source.now }
     ensures { GroundFound source.now result }
