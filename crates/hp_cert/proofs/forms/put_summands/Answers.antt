@@ -1,0 +1,8 @@
+use Rattle.std.proofs.Common.{arith}
+use Rattle.std.proofs.lemmas.Grind.{common_steps}
+use Rattle.hp_cert.proofs.Join.{place_first, place_more}
+use Rattle.hp_cert.specs.Forms.{first_summand, further_summand}
+use Rattle.hp_cert.proofs.forms.put_summands.Goals as goal
+
+pub loop-i-preserved : goal.loop-i-preserved
+loop-i-preserved c = grind (arith, common_steps, place_first (first_summand c.args.names.now) (further_summand c.args.names.now), place_more (first_summand c.args.names.now) (further_summand c.args.names.now))

@@ -1,0 +1,23 @@
+use Rattle.std.proofs.Common.{◌∙◌, ap, subst, sym, length, replicate, false}
+use Rattle.hp_cert.proofs.Splitting.{count_marks, refutes, split_lines}
+use Rattle.hp_cert.specs.Entries.{AreSplitLines, with_marks}
+use Rattle.hp_cert.proofs.listing.entries.Goals as goal
+
+pub listed-requires-clause-marks : goal.listed-requires-clause-marks
+listed-requires-clause-marks c =
+    let g = c.args.g.now in
+    let marks = c.as_slice-2.ensures.value ∙ c.in_ok-marks.ensures ∙ ap (with_marks (replicate (length g.lines) false)) c.as_slice.ensures in
+    ap length marks ∙ count_marks g c.args.tree
+
+pub returns-clause-lines : goal.returns-clause-lines
+returns-clause-lines c =
+    let g = c.args.g.now in
+    let marks = c.as_slice-2.ensures.value ∙ c.in_ok-marks.ensures ∙ ap (with_marks (replicate (length g.lines) false)) c.as_slice.ensures in
+    subst (AreSplitLines g c.args.tree) (sym c.in_ok-lines.ensures) (split_lines g c.args.tree c.as_slice-2.result.now c.requires.splits marks)
+
+pub returns-clause-refutes : goal.returns-clause-refutes
+returns-clause-refutes c = λ closed.
+    let g = c.args.g.now in
+    let marks = c.as_slice-2.ensures.value ∙ c.in_ok-marks.ensures ∙ ap (with_marks (replicate (length g.lines) false)) c.as_slice.ensures in
+    let lines = subst (AreSplitLines g c.args.tree) (sym c.in_ok-lines.ensures) (split_lines g c.args.tree c.as_slice-2.result.now c.requires.splits marks) in
+    refutes g (record { defs = c.in_ok-defs.defs; lines = c.in_ok-lines.lines; tree = c.args.tree }) c.in_ok-defs.ensures lines closed
