@@ -64,17 +64,12 @@ const LATE: &[u8] = b"const i: idx;\nconst j: idx;\nquery i <= j - 1;\nquery j <
 
 #[test]
 fn texts_are_answered(rt: HostRuntime) -> Result<(), Fail> {
-    let table: [(&[u8], u8, &[u8]); 6] = [
+    let table: [(&[u8], u8, &[u8]); 5] = [
         (b"", 10, b"satisfiable\nuniverse 1\n"),
         (
             b"const i: idx;\nquery i <= i - 1;\n",
             20,
             b"unsatisfiable\nline 1 clause 1: 0 <= -1\nsplit 1\nleaf idx +1\n",
-        ),
-        (
-            b"const i: idx;\nquery i <= 0 | i = 5;\nquery i = 3;\nquery i < 3;\n",
-            20,
-            b"unsatisfiable\nline 2 clause 2: i = 3\nline 3 clause 3: i <= 2\nsplit 2\nsplit 3\nleaf idx -1 +2\n",
         ),
         (
             b"const i: idx;\nconst j: idx;\nquery i = 3;\nquery j = i + 2;\n",

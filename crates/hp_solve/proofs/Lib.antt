@@ -1,2 +1,4 @@
 pub mod Rows
 pub mod Splits
+pub mod Structures
+pub mod Verdicts

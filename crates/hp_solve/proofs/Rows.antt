@@ -28,7 +28,7 @@ use Rattle.hp_lines.specs.declared.ground.Form.{Form}
 use Rattle.hp_lines.specs.Lines.{AreLines, AreLits, FormFits, IsGroundOf, IsLiteralOf, IsShort, NameFits, bound_of, compared, index_constant, is_base}
 
 -- ---- the sorts of the names
-abbrev const_sorts : List (List ℕ) → List Sort
+abbrev pub const_sorts : List (List ℕ) → List Sort
 const_sorts names = map constant_sort (map index_constant names) ++ []
 
 const_sort : (names : List (List ℕ)) (i : ℕ) → i < length names → slice_get (const_sorts names) i ≡ Some IdxSort
@@ -36,7 +36,7 @@ const_sort [] i h = absurd (omega arith)
 const_sort (n ∷ ns) zero h = refl
 const_sort (n ∷ ns) (suc i) h = const_sort ns i (omega arith)
 
-length-const_sorts : (names : List (List ℕ)) → length (const_sorts names) ≡ length names
+pub length-const_sorts : (names : List (List ℕ)) → length (const_sorts names) ≡ length names
 length-const_sorts [] = refl
 length-const_sorts (n ∷ ns) = ap suc (length-const_sorts ns)
 

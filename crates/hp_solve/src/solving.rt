@@ -1,12 +1,8 @@
 //! From a source to its ground lines, from these to what a search finds, and from that to the evidence.
 
-ghost use Rattle.std.specs.Prelude.{◌≡◌, ◌≤◌, [], IfOk};
-ghost use Rattle.std.specs.List.{All};
+ghost use Rattle.std.specs.Prelude.{◌≡◌, ◌≤◌, IfOk, length};
 ghost use Rattle.hp_base.specs.Names.{sorts};
-ghost use Rattle.hp_base.specs.Sorts.{AreOfSorts};
-ghost use Rattle.hp_cert.specs.Entries.{AreSplitLines, SplitsLine, all_defs};
-ghost use Rattle.hp_cert.specs.Refutes.{Refutes};
-ghost use Rattle.hp_leaf.specs.Tree.{IsClosed};
+ghost use Rattle.hp_search.specs.Search.{IsFound};
 ghost use Rattle.hp_lines.specs.Laws.{structure_of};
 ghost use Rattle.hp_lines.specs.Lines.{IsGroundOf};
 ghost use Rattle.hp_lines.specs.Problem.{IsInScope};
