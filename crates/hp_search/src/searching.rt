@@ -126,6 +126,9 @@ fn search_places(
 /// leaves and at least one unopened place: at each split some values make its path true and its line false, and after
 /// the first unopened place stand only others. It isn't answered where `most` is at least the product, over the lines,
 /// of one plus the number of literals. `Memory` says that memory was wanting.
+///
+/// It asks for `most` from 1 on and at most 50,000 lines. Each literal is over whole numbers, of names of sort idx and
+/// with a bound of a magnitude of at most 10^25; the other kinds aren't searched yet.
 pub fn search(alloc: Global, g: &Ground, most: u64) -> Result<Found, SearchErr>
     requires most { 1 ≤ most }
     requires lines { length g.now.lines ≤ 50000 }

@@ -35,7 +35,7 @@ fn only_row(line: &Line) -> Option<IdxLit>
     }
 }
 
-/// The lines of one literal.
+/// The lines of one literal. Where one is left out, it is split like any other line.
 pub fn singles_of(alloc: Global, g: &Ground) -> Result<List<Single>, AllocError>
     requires rows { All (λ line. AreRows (sorts g.now.names) line.lits) g.now.lines }
     requires lines { length g.now.lines ≤ 50000 }
@@ -123,7 +123,8 @@ pub fn close_singles(
     }
 }
 
-/// The lines of one literal whose rows stand after the first `own` and are named by the steps.
+/// The lines of one literal whose rows stand after the first `own` and are named by the steps. Only the order in which
+/// lines are split hangs on them.
 pub fn suspects(
     alloc: Global,
     singles: &[Single],
