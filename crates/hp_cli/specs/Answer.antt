@@ -125,6 +125,17 @@ IsWhole ReadFault = ⊥
 IsWhole WriteFault = ⊥
 IsWhole Memory = ⊥
 
+-- a status that an input may have
+abbrev pub IsDecided : Status → Type 0
+IsDecided Usage = ⊥
+IsDecided Sat = Unit {0}
+IsDecided Unsat = Unit {0}
+IsDecided Spent = Unit {0}
+IsDecided NotBuilt = Unit {0}
+IsDecided ReadFault = ⊥
+IsDecided WriteFault = ⊥
+IsDecided Memory = ⊥
+
 -- a verdict on the problem, with its evidence
 abbrev pub IsVerdict : Status → Type 0
 IsVerdict Usage = ⊥

@@ -4,7 +4,7 @@ ghost use Rattle.std.specs.Prelude.{◌≡◌, ◌≤◌, ◌++◌, [], IfOk, Li
 ghost use Rattle.std.specs.Fmt.{decimal};
 ghost use Rattle.hp_cert.specs.Refutation.{refutation_text};
 ghost use Rattle.hp_model.specs.Written.{structure_text};
-ghost use Rattle.hp_cli.specs.Answer.{Answers, IsWhole, line, not_built_text};
+ghost use Rattle.hp_cli.specs.Answer.{Answers, IsDecided, line, not_built_text};
 ghost use Rattle.hp_cli.specs.Words.{IsSolve};
 
 use crate::answer::Status;
@@ -67,7 +67,7 @@ fn not_built(alloc: Global) -> Result<Answer, AllocError>
 pub fn decide(alloc: Global, bytes: &[u8], most: u64) -> Result<Answer, AllocError>
     requires size { length bytes.now ≤ 1048576 }
     requires most { 1 ≤ most }
-    ensures { IfOk result (λ answer. IsWhole answer.status × ((words : List (List ℕ)) → IsSolve words most → Answers words bytes.now answer.text answer.status)) }
+    ensures { IfOk result (λ answer. IsDecided answer.status × ((words : List (List ℕ)) → IsSolve words most → Answers words bytes.now answer.text answer.status)) }
 {
     match read_source(alloc, bytes) {
         SourceRead::Memory => Err(AllocError),

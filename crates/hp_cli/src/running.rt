@@ -118,13 +118,19 @@ fn outcome<S: Source, K: Sink>(
     }
 }
 
-/// Does what the words ask for and answers the exit status, by the first of these causes that holds.
+/// Does what the words ask for and answers the exit status.
 ///
-/// 2: the words are neither `solve` nor `solve --nodes N`; nothing is read. 3: a read failed; nothing is written.
-/// 13: the input is no text of the form that is read so far, or longer than 1,048,576 bytes, of which one more is
-/// then read and the rest left. 10: the text is `satisfiable` and a structure that satisfies the problem. 4: a write
-/// failed; a part from the front of the text is written. 12: memory was wanting; nothing is written, or a part from
-/// the front where the sink wanted it. The text is built whole before the first write.
+/// - 2: the words are neither `solve` nor `solve --nodes N`. Nothing is read.
+/// - 3: a read failed. Nothing is written.
+/// - 13: the input is no text of the form that is read so far, or longer than 1,048,576 bytes, of which one more is then
+///   read and the rest left.
+/// - 10: the text is `satisfiable` and a structure that satisfies the problem.
+/// - 20: no structure satisfies the problem, and the text is a refutation.
+/// - 11: the search came to its limit of splits and leaves, and the text is its honest tree.
+/// - 4: a write failed. A part from the front of the text is written.
+/// - 12: memory was wanting. Nothing is written, or a part from the front where the sink wanted it.
+///
+/// The text is built whole before the first write.
 pub fn run<S: Source, K: Sink>(alloc: Global, words: &[String], source: &mut S, sink: &mut K) -> u8
     // No other status is answered.
     ensures statuses { (s : Status) × (result ≡ code s) }

@@ -127,8 +127,12 @@ fn one_byte_at_a_time(rt: HostRuntime) -> Result<(), Fail> {
     let mut sink = Sips {
         inner: SteadySink::new(rt.alloc()),
     };
-    assert_eq!(rt; run(rt.alloc(), words.as_slice(), &mut source, &mut sink), 20);
-    let lines = b"unsatisfiable\nline 1 clause 1: i - j <= -1\nline 2 clause 2: j - i <= -1\nsplit 1\nsplit 2\n";
+    assert_eq!(rt;
+        run(rt.alloc(), words.as_slice(), &mut source, &mut sink),
+        20
+    );
+    let lines =
+        b"unsatisfiable\nline 1 clause 1: i - j <= -1\nline 2 clause 2: j - i <= -1\nsplit 1\nsplit 2\n";
     assert!(rt; sink.inner.bytes().starts_with(lines));
     Ok(())
 }
@@ -139,11 +143,17 @@ fn faults_are_told(rt: HostRuntime) -> Result<(), Fail> {
     let none = Vec::new(rt.alloc());
     let mut source = MemorySource::new(Vec::new(rt.alloc()), [1].to_vec(rt.alloc())?);
     let mut sink = MemorySink::new(rt.alloc(), Vec::new(rt.alloc()));
-    assert_eq!(rt; run(rt.alloc(), words.as_slice(), &mut source, &mut sink), 3);
+    assert_eq!(rt;
+        run(rt.alloc(), words.as_slice(), &mut source, &mut sink),
+        3
+    );
     assert_eq!(rt; sink.bytes().len(), 0);
     let mut source = MemorySource::new(Vec::new(rt.alloc()), Vec::new(rt.alloc()));
     let mut sink = MemorySink::new(rt.alloc(), [1].to_vec(rt.alloc())?);
-    assert_eq!(rt; run(rt.alloc(), words.as_slice(), &mut source, &mut sink), 4);
+    assert_eq!(rt;
+        run(rt.alloc(), words.as_slice(), &mut source, &mut sink),
+        4
+    );
     assert_eq!(rt; run(rt.alloc(), none.as_slice(), &mut source, &mut sink), 2);
     Ok(())
 }
