@@ -2,6 +2,8 @@
 #![tactic(auto)]
 
 mod structure;
+#[cfg(test)]
+mod tests;
 mod writing;
 
 pub use structure::{ConstValue, Row, Structure, Table};
