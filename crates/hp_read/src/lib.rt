@@ -1,0 +1,16 @@
+//! The reader of problems.
+#![tactic(auto)]
+
+mod body;
+mod stack;
+mod stage;
+mod state;
+mod stop;
+mod symbol;
+
+pub use body::{Body, Place, Side};
+pub use stack::Stack;
+pub use stage::{Constants, Function, Progress, Stage, Variables};
+pub use state::{Frame, Front, Mode};
+pub use stop::Stop;
+pub use symbol::Symbol;
