@@ -18,8 +18,8 @@ use Rattle.hp_read.specs.declared.body.Body.TheVariants.{Reading, Closed}
 use Rattle.hp_read.specs.Token.{Token, word, name, numeral, same}
 use Rattle.hp_read.specs.Grammar.{SpellsTerm}
 use Rattle.hp_read.specs.Bodies.{relation, atom_of, Separated, one, more, SpellsAtom, SpellsAtoms, SpellsGuard, none, some, SpellsHead, empty, atoms, SpellsBody, body}
-use Rattle.hp_read.specs.Machine.{◌>>=◌, State, step, ended, runs}
-use Rattle.hp_read.specs.BodyMachine.{begun, outermost, atom_end, at_and, at_arrow, at_or, last, at_relation, at_false, in_term, relation_or_term, body_word, body_step, body_end}
+use Rattle.hp_read.specs.Machine.{◌and_then◌, State, step, ended, runs}
+use Rattle.hp_read.specs.BodyMachine.{begun, outermost, atom_end, at_and, at_arrow, at_or, last, at_relation, at_false, in_term, relation_or_term, body_word, body_step, body_end, and_goes, arrow_goes, or_goes, other_goes}
 use Rattle.hp_read.proofs.Machines.{bound}
 use Rattle.hp_read.proofs.Found.{StateIs, ended_is, step_is, ◌and◌}
 
@@ -110,9 +110,9 @@ begun_is q u h = record {
 
 place_is : (at : Place → Atom → Option Place) (k : Kind) (p : Place) (d : Side) (m : Mode) (fs : List Frame) (u : List Token) (c : Body) → ReadingIs p d m fs u
     → ((q : Place) (x y : List Token) (a : Atom) → PlaceIs p x → SpellsAtom y a → at p a ≡ Some q → PlaceIs q ((x ++ y) and word k))
-    → (atom_end d m fs >>= λ a. at p a >>= λ q. Some (begun q)) ≡ Some c → BodyIs c (u and word k)
+    → (atom_end d m fs and_then λ a. at p a and_then λ q. Some (begun q)) ≡ Some c → BodyIs c (u and word k)
 place_is at k p d m fs u c h next e =
-    let b = bound (atom_end d m fs) (λ a. at p a >>= λ q. Some (begun q)) c e in
+    let b = bound (atom_end d m fs) (λ a. at p a and_then λ q. Some (begun q)) c e in
     let n = bound (at p b.0) (λ q. Some (begun q)) c b.2 in
     let same : begun n.0 ≡ c = cc (n.2) in
     subst (λ z. BodyIs z (u and word k)) same (begun_is n.0 _
@@ -131,7 +131,7 @@ term_step_is p d m fs u k c h e =
     })
 
 relation_is : (k : Kind) (r : Cmp) (p : Place) (d : Side) (m : Mode) (fs : List Frame) (u : List Token) (c : Body) → relation k ≡ Some r → ReadingIs p d m fs u
-    → (at_relation d m fs r >>= λ e. Some (Reading p e.0 e.1.0 e.1.1)) ≡ Some c → BodyIs c (u and word k)
+    → (at_relation d m fs r and_then λ e. Some (Reading p e.0 e.1.0 e.1.1)) ≡ Some c → BodyIs c (u and word k)
 relation_is k r p Left m fs u c q h e =
     let b = bound (at_relation Left m fs r) (λ e. Some (Reading p e.0 e.1.0 e.1.1)) c e in
     let n = bound (outermost m fs) (λ a. Some (Right a r, (Part Nothing, []))) b.0 b.1 in
@@ -162,7 +162,7 @@ either_is k None p d m fs u c q h e = term_step_is p d m fs u (word k) c h e
 
 body_word_is : (k : Kind) (p : Place) (d : Side) (m : Mode) (fs : List Frame) (u : List Token) (c : Body) → ReadingIs p d m fs u
     → body_word k p d m fs ≡ Some c → BodyIs c (u and word k)
-unfolding same
+unfolding same body_word and_goes arrow_goes or_goes other_goes
 body_word_is kinds.And p d m fs u c h e = place_is at_and kinds.And p d m fs u c h (λ q x y a. and_is p q x y a) e
 body_word_is kinds.Arrow p d m fs u c h e = place_is at_arrow kinds.Arrow p d m fs u c h (λ q x y a. arrow_is p q x y a) e
 body_word_is kinds.Or p d m fs u c h e = place_is at_or kinds.Or p d m fs u c h (λ q x y a. or_is p q x y a) e

@@ -18,15 +18,15 @@ use Rattle.hp_read.specs.declared.body.Body.TheVariants.{Reading, Closed}
 use Rattle.hp_read.specs.Token.{Token, word, name, numeral, same}
 use Rattle.hp_read.specs.Grammar.{SpellsTerm}
 use Rattle.hp_read.specs.Bodies.{relation, atom_of, Separated, one, more, SpellsAtom, SpellsAtoms, SpellsGuard, none, some, SpellsHead, empty, atoms, SpellsBody, body}
-use Rattle.hp_read.specs.Machine.{◌>>=◌, State, step, ended, run, runs}
-use Rattle.hp_read.specs.BodyMachine.{begun, outermost, atom_end, at_and, at_arrow, at_or, last, at_relation, at_false, in_term, relation_or_term, body_word, body_step, body_end}
+use Rattle.hp_read.specs.Machine.{◌and_then◌, State, step, ended, run, runs, at_word}
+use Rattle.hp_read.specs.BodyMachine.{begun, outermost, atom_end, at_and, at_arrow, at_or, last, at_relation, at_false, in_term, relation_or_term, body_word, body_step, body_end, and_goes, arrow_goes, or_goes, other_goes}
 use Rattle.hp_read.proofs.Machines.{bound, runs_on, result_of}
 use Rattle.hp_read.proofs.Only.{term_ends, Ends}
 
 -- a token that a term goes on with is one that its body goes on with
 word_in_body : (k : Kind) (p : Place) (d : Side) (m : Mode) (fs : List Frame) (n : State) → step (m, fs) (word k) ≡ Some n
     → body_word k p d m fs ≡ Some (Reading p d n.0 n.1)
-unfolding same relation
+unfolding same relation at_word body_word and_goes arrow_goes or_goes other_goes
 word_in_body kinds.And p d m fs n e = absurd (cc)
 word_in_body kinds.Arrow p d m fs n e = absurd (cc)
 word_in_body kinds.Or p d m fs n e = absurd (cc)
@@ -50,7 +50,7 @@ pub run_in_body : (u : List Token) (p : Place) (d : Side) (s n : State) → run 
 run_in_body [] p d s n e = let same : s ≡ n = cc in ap (λ z. Some (Reading p d z.0 z.1)) same
 run_in_body (k ∷ u) p d s n e =
     let b = bound (step s k) (λ c. runs step c u) n e in
-    ap (λ o. o >>= λ c. runs body_step c u) (token_in_body k p d s.0 s.1 b.0 b.1) ∙ run_in_body u p d b.0 n b.2
+    ap (λ o. o and_then λ c. runs body_step c u) (token_in_body k p d s.0 s.1 b.0 b.1) ∙ run_in_body u p d b.0 n b.2
 
 -- reading u goes from the beginning at p to where the atom a ends, whatever it is that follows
 pub record AtomEnds (p : Place) (u : List Token) (a : Atom) : Type 0 where
@@ -60,18 +60,18 @@ pub record AtomEnds (p : Place) (u : List Token) (a : Atom) : Type 0 where
   pub ended : atom_end side mode [] ≡ Some a
 
 abbrev right_of : Option Term → Cmp → Option (Side × State)
-right_of o c = o >>= λ b. Some (Right b c, (Part Nothing, []))
+right_of o c = o and_then λ b. Some (Right b c, (Part Nothing, []))
 
 pub at_relation_word : (k : Kind) (c : Cmp) (p : Place) (m : Mode) (a : Term) → relation k ≡ Some c → ended m ≡ Some a
     → body_word k p Left m [] ≡ Some (Reading p (Right a c) (Part Nothing) [])
-unfolding same relation
+unfolding same relation body_word and_goes arrow_goes or_goes other_goes
 at_relation_word kinds.And c p m a q e = absurd (cc)
 at_relation_word kinds.Arrow c p m a q e = absurd (cc)
 at_relation_word kinds.Or c p m a q e = absurd (cc)
 at_relation_word kinds.False c p m a q e = absurd (cc)
 at_relation_word k c p m a q e =
     ap (λ o. relation_or_term o k p Left m []) q
-      ∙ ap (λ (o : Option Term). right_of o c >>= λ (z : Side × State). Some (Reading p z.0 z.1.0 z.1.1)) e
+      ∙ ap (λ (o : Option Term). right_of o c and_then λ (z : Side × State). Some (Reading p z.0 z.1.0 z.1.1)) e
 
 atom_ends : (p : Place) (u : List Token) (a : Atom) → SpellsAtom u a → AtomEnds p u a
 atom_ends p u a h =
@@ -86,8 +86,8 @@ atom_ends p u a h =
       mode = l.last;
       goes = ap (runs body_step (begun p)) h.tokens
         ∙ (runs_on body_step h.left_tokens (word h.sign ∷ h.right_tokens) (begun p) _ start
-        ∙ (ap (λ o. o >>= λ b. runs body_step b h.right_tokens) (at_relation_word h.sign h.cmp_of p k.last h.left_term h.rel_is k.ended) ∙ end));
-      ended = ap (λ o. o >>= λ b. Some (atom_of h.left_term h.cmp_of b)) l.ended ∙ ap (λ z. Some z) (sym h.atom);
+        ∙ (ap (λ o. o and_then λ b. runs body_step b h.right_tokens) (at_relation_word h.sign h.cmp_of p k.last h.left_term h.rel_is k.ended) ∙ end));
+      ended = ap (λ o. o and_then λ b. Some (atom_of h.left_term h.cmp_of b)) l.ended ∙ ap (λ z. Some z) (sym h.atom);
     }
 
 -- reading u goes from the beginning at p to the end of the last atom of a list, at a place where `&` and `->` do this
@@ -102,7 +102,7 @@ pub record GuardEnds (u : List Token) (bs : List Atom) : Type 0 where
   pub arrow : at_arrow place atom ≡ Some (Bare bs)
 
 guard_ends : (u : List Token) (bs : List Atom) → SpellsAtoms kinds.And u bs → GuardEnds u bs
-unfolding same
+unfolding same body_word and_goes arrow_goes or_goes other_goes
 guard_ends u bs (one v a h) =
     let k = atom_ends First v a h in
     record { place = First; side = k.side; mode = k.mode; atom = a; goes = k.goes; ended = k.ended; and = refl; arrow = refl }
@@ -111,8 +111,8 @@ guard_ends u bs (more v w cs a g h) =
     let l = atom_ends (Guard cs) w a h in
     record { place = Guard cs; side = l.side; mode = l.mode; atom = a; ended = l.ended; and = refl; arrow = refl;
       goes = runs_on body_step v (word kinds.And ∷ w) (begun First) _ k.goes
-        ∙ (ap (λ o. (o >>= λ b. at_and k.place b >>= λ q. Some (begun q)) >>= λ b. runs body_step b w) k.ended
-        ∙ (ap (λ o. (o >>= λ q. Some (begun q)) >>= λ b. runs body_step b w) k.and ∙ l.goes)) }
+        ∙ (ap (λ o. (o and_then λ b. at_and k.place b and_then λ q. Some (begun q)) and_then λ b. runs body_step b w) k.ended
+        ∙ (ap (λ o. (o and_then λ q. Some (begun q)) and_then λ b. runs body_step b w) k.and ∙ l.goes)) }
 
 pub record HeadEnds (p : Place) (gs : List Atom) (u : List Token) (bs : List Atom) : Type 0 where
   pub place : Place
@@ -131,7 +131,7 @@ pub record BeginsHead (p : Place) (gs : List Atom) : Type 0 where
   pub false_goes : at_false p Left (Part Nothing) [] ≡ Some (Closed gs)
 
 head_ends : (p : Place) (gs : List Atom) (u : List Token) (bs : List Atom) → BeginsHead p gs → SpellsAtoms kinds.Or u bs → HeadEnds p gs u bs
-unfolding same
+unfolding same body_word and_goes arrow_goes or_goes other_goes
 head_ends p gs u bs h (one v a g) =
     let k = atom_ends p v a g in
     record { place = p; side = k.side; mode = k.mode; atom = a; goes = k.goes; ended = k.ended; or = h.or a; all = h.all a }
@@ -140,25 +140,25 @@ head_ends p gs u bs h (more v w cs a g i) =
     let l = atom_ends (Head gs cs) w a i in
     record { place = Head gs cs; side = l.side; mode = l.mode; atom = a; ended = l.ended; or = refl; all = refl;
       goes = runs_on body_step v (word kinds.Or ∷ w) (begun p) _ k.goes
-        ∙ (ap (λ o. (o >>= λ b. at_or k.place b >>= λ q. Some (begun q)) >>= λ b. runs body_step b w) k.ended
-        ∙ (ap (λ o. (o >>= λ q. Some (begun q)) >>= λ b. runs body_step b w) k.or ∙ l.goes)) }
+        ∙ (ap (λ o. (o and_then λ b. at_or k.place b and_then λ q. Some (begun q)) and_then λ b. runs body_step b w) k.ended
+        ∙ (ap (λ o. (o and_then λ q. Some (begun q)) and_then λ b. runs body_step b w) k.or ∙ l.goes)) }
 
 -- a head read at p
 head_read : (p : Place) (gs : List Atom) (u : List Token) (bs : List Atom) → BeginsHead p gs → SpellsHead u bs → result_of body_step body_end (begun p) u ≡ Some (gs, bs)
-unfolding same
-head_read p gs u bs h empty = ap (λ o. (o >>= λ b. Some b) >>= body_end) h.false_goes
+unfolding same body_word and_goes arrow_goes or_goes other_goes
+head_read p gs u bs h empty = ap (λ o. (o and_then λ b. Some b) and_then body_end) h.false_goes
 head_read p gs u bs h (atoms v cs g) =
     let k = head_ends p gs v cs h g in
-    ap (λ o. o >>= body_end) k.goes ∙ (ap (λ o. o >>= last k.place) k.ended ∙ k.all)
+    ap (λ o. o and_then body_end) k.goes ∙ (ap (λ o. o and_then last k.place) k.ended ∙ k.all)
 
 pub body_read : (u : List Token) (gs bs : List Atom) → SpellsBody u gs bs → result_of body_step body_end (begun First) u ≡ Some (gs, bs)
-unfolding same
+unfolding same body_word and_goes arrow_goes or_goes other_goes
 body_read u gs bs (body v w g h none k) = head_read First [] w h (record { or = λ a. refl; all = λ a. refl; false_goes = refl }) k
 body_read u gs bs (body v w g h (some x cs i) k) =
     let l = guard_ends x cs i in
     let arrow : runs body_step (begun First) (x ++ word kinds.Arrow ∷ []) ≡ Some (begun (Bare cs)) =
         runs_on body_step x (word kinds.Arrow ∷ []) (begun First) _ l.goes
-        ∙ (ap (λ o. (o >>= λ b. at_arrow l.place b >>= λ q. Some (begun q)) >>= λ b. Some b) l.ended
-        ∙ ap (λ o. (o >>= λ q. Some (begun q)) >>= λ b. Some b) l.arrow) in
-    ap (λ o. o >>= body_end) (runs_on body_step (x ++ word kinds.Arrow ∷ []) w (begun First) _ arrow)
+        ∙ (ap (λ o. (o and_then λ b. at_arrow l.place b and_then λ q. Some (begun q)) and_then λ b. Some b) l.ended
+        ∙ ap (λ o. (o and_then λ q. Some (begun q)) and_then λ b. Some b) l.arrow) in
+    ap (λ o. o and_then body_end) (runs_on body_step (x ++ word kinds.Arrow ∷ []) w (begun First) _ arrow)
       ∙ head_read (Bare cs) cs w h (record { or = λ a. refl; all = λ a. refl; false_goes = refl }) k

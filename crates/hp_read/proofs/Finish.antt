@@ -12,7 +12,7 @@ use Rattle.hp_read.specs.declared.state.Front.TheVariants.{Nothing}
 use Rattle.hp_read.specs.Token.{Token, word, name, numeral, same}
 use Rattle.hp_read.specs.Tree.{number_of, named, apply}
 use Rattle.hp_read.specs.Grammar.{SpellsTerm}
-use Rattle.hp_read.specs.Machine.{◌>>=◌, joined, scaled, ended, State, step, run, runs, close}
+use Rattle.hp_read.specs.Machine.{◌and_then◌, joined, scaled, ended, State, step, run, runs, close, at_word, plus_goes, minus_goes, star_goes, slash_goes, null_goes, open_goes, close_goes, comma_goes}
 use Rattle.hp_read.proofs.Machines.{runs_on, bound, result_of, Reads}
 use Rattle.hp_read.proofs.Found.{term_is}
 use Rattle.hp_read.proofs.Only.{term_ends}
@@ -33,7 +33,7 @@ abbrev pub x : Token
 x = name (120 ∷ [])
 
 pub mode_finishes : (m : Mode) (fs : List Frame) → Finishes m fs fs
-unfolding same
+unfolding same at_word plus_goes minus_goes star_goes slash_goes null_goes open_goes close_goes comma_goes
 mode_finishes (Part f) fs = record { tokens = x ∷ []; last = Named f None (120 ∷ []); term = joined f (named (120 ∷ [])); goes = refl; ended = refl }
 mode_finishes (Whole f n) fs = record { tokens = []; last = Whole f n; term = joined f (number_of (ratio (pos n) 1)); goes = refl; ended = refl }
 mode_finishes (Over f n) fs = record { tokens = numeral 1 ∷ []; last = Ratio f (ratio (pos n) 1); term = joined f (number_of (ratio (pos n) 1)); goes = refl; ended = refl }
@@ -43,16 +43,16 @@ mode_finishes (Named f s y) fs = record { tokens = []; last = Named f s y; term 
 mode_finishes (Done f s t) fs = record { tokens = []; last = Done f s t; term = joined f (scaled s t); goes = refl; ended = refl }
 
 frames_finish : (fs : List Frame) (m : Mode) (t : Term) → ended m ≡ Some t → Finishes m fs []
-unfolding same
+unfolding same at_word plus_goes minus_goes star_goes slash_goes null_goes open_goes close_goes comma_goes
 frames_finish [] m t e = record { tokens = []; last = m; term = t; goes = refl; ended = e }
 frames_finish (Group f s ∷ fs) m t e =
     let k = frames_finish fs (Done f s t) (joined f (scaled s t)) refl in
     record { tokens = word kinds.CloseRound ∷ k.tokens; last = k.last; term = k.term; ended = k.ended;
-      goes = ap (λ o. (o >>= λ a. close a (Group f s ∷ fs)) >>= λ n. runs step n k.tokens) e ∙ k.goes }
+      goes = ap (λ o. (o and_then λ a. close a (Group f s ∷ fs)) and_then λ n. runs step n k.tokens) e ∙ k.goes }
 frames_finish (Call f s y ts ∷ fs) m t e =
     let k = frames_finish fs (Done f s (apply y (ts ++ t ∷ []))) (joined f (scaled s (apply y (ts ++ t ∷ [])))) refl in
     record { tokens = word kinds.CloseRound ∷ k.tokens; last = k.last; term = k.term; ended = k.ended;
-      goes = ap (λ o. (o >>= λ a. close a (Call f s y ts ∷ fs)) >>= λ n. runs step n k.tokens) e ∙ k.goes }
+      goes = ap (λ o. (o and_then λ a. close a (Call f s y ts ∷ fs)) and_then λ n. runs step n k.tokens) e ∙ k.goes }
 
 pub finishes : (m : Mode) (fs : List Frame) → Finishes m fs []
 finishes m fs =
@@ -76,6 +76,6 @@ terms_read = record {
       let b = bound (runs step (Part Nothing, []) u) accept t e in
       let c = accepted b.0 t b.2 in
       term_is u c.0 t (b.1 ∙ ap (λ s. Some s) c.1) c.2;
-    only = λ u t h. let k = term_ends u t h [] in ap (λ o. o >>= accept) k.goes ∙ k.ended;
-    ends = λ s. let k = finishes s.0 s.1 in (k.tokens, k.term, ap (λ o. o >>= accept) k.goes ∙ k.ended);
+    only = λ u t h. let k = term_ends u t h [] in ap (λ o. o and_then accept) k.goes ∙ k.ended;
+    ends = λ s. let k = finishes s.0 s.1 in (k.tokens, k.term, ap (λ o. o and_then accept) k.goes ∙ k.ended);
   }

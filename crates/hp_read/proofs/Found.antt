@@ -14,7 +14,7 @@ use Rattle.hp_read.specs.declared.state.Frame.TheVariants.{Group, Call}
 use Rattle.hp_read.specs.Token.{Token, word, name, numeral, same}
 use Rattle.hp_read.specs.Tree.{number_of, null, named, apply, add, sub, neg, scale}
 use Rattle.hp_read.specs.Grammar.{SpellsNumber, SpellsTerm, SpellsPart, SpellsFactor, SpellsTerms, whole, fraction, part, minus, sum, difference, number, product, factor, single, call, nothing, group, first, more}
-use Rattle.hp_read.specs.Machine.{◌>>=◌, joined, scaled, ended, State, step, run, at_word, at_minus, at_star, at_slash, at_null, at_name, at_numeral, at_open, close, next_argument}
+use Rattle.hp_read.specs.Machine.{◌and_then◌, joined, scaled, ended, State, step, run, at_word, at_minus, at_star, at_slash, at_null, at_name, at_numeral, at_open, close, next_argument, plus_goes, minus_goes, star_goes, slash_goes, null_goes, open_goes, close_goes, comma_goes}
 
 -- one token at the end
 infixl 20 ◌and◌
@@ -275,19 +275,19 @@ next_is (Call f s a ts ∷ fs) n x y t h k e =
       split = rw (h.4, g.split, g.here.4) (simp append_assoc);
     })
 
-pub bound : {A B : Type 0} (o : Option A) (f : A → Option B) (b : B) → (o >>= f) ≡ Some b → (a : A) × (o ≡ Some a) × (f a ≡ Some b)
+pub bound : {A B : Type 0} (o : Option A) (f : A → Option B) (b : B) → (o and_then f) ≡ Some b → (a : A) × (o ≡ Some a) × (f a ≡ Some b)
 bound None f b e = absurd (cc)
 bound (Some a) f b e = (a, refl, e)
 
 moved : (fs : List Frame) (o : Option Mode) (m : Mode) (n : State) (u : List Token) (k : Token) → StateIs (m, fs) u
-    → ((a : Mode) (v : List Token) → o ≡ Some a → ModeIs m v → ModeIs a (v and k)) → (o >>= λ a. Some (a, fs)) ≡ Some n → StateIs n (u and k)
+    → ((a : Mode) (v : List Token) → o ≡ Some a → ModeIs m v → ModeIs a (v and k)) → (o and_then λ a. Some (a, fs)) ≡ Some n → StateIs n (u and k)
 moved fs o m n u k h next e =
     let b = bound o (λ a. Some (a, fs)) n e in
     let same : (b.0, fs) ≡ n = cc (b.2) in
     subst (λ z. StateIs z (u and k)) same (in_mode fs m b.0 u k h (λ v. next b.0 v b.1))
 
 word_is : (k : Kind) (m : Mode) (fs : List Frame) (n : State) (u : List Token) → StateIs (m, fs) u → at_word k m fs ≡ Some n → StateIs n (u and word k)
-unfolding same
+unfolding same at_word plus_goes minus_goes star_goes slash_goes null_goes open_goes close_goes comma_goes
 word_is kinds.Plus m fs n u h e =
     let b = bound (ended m) (λ t. Some (Part (Sum t), fs)) n e in
     let same : (Part (Sum b.0), fs) ≡ n = cc (b.2) in

@@ -5,3 +5,5 @@ pub mod Finish
 pub mod BodyFound
 pub mod BodyOnly
 pub mod BodyFinish
+pub mod Layers
+pub mod Declared

@@ -17,7 +17,7 @@ use Rattle.hp_read.specs.declared.body.Body.{Body}
 use Rattle.hp_read.specs.declared.body.Body.TheVariants.{Reading, Closed}
 use Rattle.hp_read.specs.Token.{Token, word, name, numeral, same}
 use Rattle.hp_read.specs.Bodies.{relation, atom_of}
-use Rattle.hp_read.specs.Machine.{◌>>=◌, State, step, ended, runs}
+use Rattle.hp_read.specs.Machine.{◌and_then◌, State, step, ended, runs}
 
 -- a body begins, or its head behind a guard
 abbrev pub begun : Place → Body
@@ -31,7 +31,7 @@ outermost m (f ∷ fs) = None
 -- the atom that ends here
 abbrev pub atom_end : Side → Mode → List Frame → Option Atom
 atom_end Left m fs = None
-atom_end (Right a c) m fs = outermost m fs >>= λ b. Some (atom_of a c b)
+atom_end (Right a c) m fs = outermost m fs and_then λ b. Some (atom_of a c b)
 
 abbrev pub at_and : Place → Atom → Option Place
 at_and First a = Some (Guard (a ∷ []))
@@ -57,7 +57,7 @@ last (Bare g) a = Some (g, a ∷ [])
 last (Head g bs) a = Some (g, bs ++ a ∷ [])
 
 abbrev pub at_relation : Side → Mode → List Frame → Cmp → Option (Side × State)
-at_relation Left m fs c = outermost m fs >>= λ a. Some (Right a c, (Part Nothing, []))
+at_relation Left m fs c = outermost m fs and_then λ a. Some (Right a c, (Part Nothing, []))
 at_relation (Right a d) m fs c = None
 
 abbrev pub at_false : Place → Side → Mode → List Frame → Option Body
@@ -66,19 +66,32 @@ at_false (Bare g) Left (Part Nothing) [] = Some (Closed g)
 at_false p d m fs = None
 
 abbrev pub in_term : Place → Side → Option State → Option Body
-in_term p d o = o >>= λ s. Some (Reading p d s.0 s.1)
+in_term p d o = o and_then λ s. Some (Reading p d s.0 s.1)
 
 abbrev pub relation_or_term : Option Cmp → Kind → Place → Side → Mode → List Frame → Option Body
-relation_or_term (Some c) k p d m fs = at_relation d m fs c >>= λ e. Some (Reading p e.0 e.1.0 e.1.1)
+relation_or_term (Some c) k p d m fs = at_relation d m fs c and_then λ e. Some (Reading p e.0 e.1.0 e.1.1)
 relation_or_term None k p d m fs = in_term p d (step (m, fs) (word k))
 
-abbrev pub body_word : Kind → Place → Side → Mode → List Frame → Option Body
+unfoldable pub and_goes : Place → Side → Mode → List Frame → Option Body
+and_goes p d m fs = atom_end d m fs and_then λ a. at_and p a and_then λ q. Some (begun q)
+
+unfoldable pub arrow_goes : Place → Side → Mode → List Frame → Option Body
+arrow_goes p d m fs = atom_end d m fs and_then λ a. at_arrow p a and_then λ q. Some (begun q)
+
+unfoldable pub or_goes : Place → Side → Mode → List Frame → Option Body
+or_goes p d m fs = atom_end d m fs and_then λ a. at_or p a and_then λ q. Some (begun q)
+
+unfoldable pub other_goes : Kind → Place → Side → Mode → List Frame → Option Body
+other_goes k p d m fs = relation_or_term (relation k) k p d m fs
+
+-- the body behind one more word or sign, if it may stand there
+unfoldable pub body_word : Kind → Place → Side → Mode → List Frame → Option Body
 body_word k p d m fs =
-    if same k kinds.And then (atom_end d m fs >>= λ a. at_and p a >>= λ q. Some (begun q))
-    else if same k kinds.Arrow then (atom_end d m fs >>= λ a. at_arrow p a >>= λ q. Some (begun q))
-    else if same k kinds.Or then (atom_end d m fs >>= λ a. at_or p a >>= λ q. Some (begun q))
+    if same k kinds.And then and_goes p d m fs
+    else if same k kinds.Arrow then arrow_goes p d m fs
+    else if same k kinds.Or then or_goes p d m fs
     else if same k kinds.False then at_false p d m fs
-    else relation_or_term (relation k) k p d m fs
+    else other_goes k p d m fs
 
 abbrev pub body_step : Body → Token → Option Body
 body_step (Closed g) k = None
@@ -89,4 +102,4 @@ body_step (Reading p d m fs) (numeral n) = in_term p d (step (m, fs) (numeral n)
 -- the guard and the head, where a body may end here
 abbrev pub body_end : Body → Option (List Atom × List Atom)
 body_end (Closed g) = Some (g, [])
-body_end (Reading p d m fs) = atom_end d m fs >>= last p
+body_end (Reading p d m fs) = atom_end d m fs and_then last p

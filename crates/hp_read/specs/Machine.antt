@@ -13,10 +13,10 @@ use Rattle.hp_read.specs.declared.state.Frame.TheVariants.{Group, Call}
 use Rattle.hp_read.specs.Token.{Token, word, name, numeral, same}
 use Rattle.hp_read.specs.Tree.{number_of, null, named, apply, add, sub, neg, scale}
 
-infixl 10 ◌>>=◌
-abbrev pub ◌>>=◌ : {A B : Type 0} → Option A → (A → Option B) → Option B
-None >>= f = None
-(Some x) >>= f = f x
+infixl 10 ◌and_then◌
+abbrev pub ◌and_then◌ : {A B : Type 0} → Option A → (A → Option B) → Option B
+None and_then f = None
+(Some x) and_then f = f x
 
 abbrev pub joined : Front → Term → Term
 joined Nothing t = t
@@ -43,7 +43,7 @@ State = Mode × List Frame
 
 abbrev pub at_minus : Mode → Option Mode
 at_minus (Part Nothing) = Some (Part Negative)
-at_minus m = ended m >>= λ t. Some (Part (Difference t))
+at_minus m = ended m and_then λ t. Some (Part (Difference t))
 
 abbrev pub at_star : Mode → Option Mode
 at_star (Whole f n) = Some (Times f (ratio (pos n) 1))
@@ -86,28 +86,52 @@ next_argument t [] = None
 next_argument t (Group f s ∷ fs) = None
 next_argument t (Call f s x ts ∷ fs) = Some (Part Nothing, Call f s x (ts ++ t ∷ []) ∷ fs)
 
+unfoldable pub plus_goes : Mode → List Frame → Option State
+plus_goes m fs = ended m and_then λ t. Some (Part (Sum t), fs)
+
+unfoldable pub minus_goes : Mode → List Frame → Option State
+minus_goes m fs = at_minus m and_then λ n. Some (n, fs)
+
+unfoldable pub star_goes : Mode → List Frame → Option State
+star_goes m fs = at_star m and_then λ n. Some (n, fs)
+
+unfoldable pub slash_goes : Mode → List Frame → Option State
+slash_goes m fs = at_slash m and_then λ n. Some (n, fs)
+
+unfoldable pub null_goes : Mode → List Frame → Option State
+null_goes m fs = at_null m and_then λ n. Some (n, fs)
+
+unfoldable pub open_goes : Mode → List Frame → Option State
+open_goes m fs = at_open m and_then λ f. Some (Part Nothing, f ∷ fs)
+
+unfoldable pub close_goes : Mode → List Frame → Option State
+close_goes m fs = ended m and_then λ t. close t fs
+
+unfoldable pub comma_goes : Mode → List Frame → Option State
+comma_goes m fs = ended m and_then λ t. next_argument t fs
+
 -- the state behind one more word or sign, if it may stand there
-abbrev pub at_word : Kind → Mode → List Frame → Option State
+unfoldable pub at_word : Kind → Mode → List Frame → Option State
 at_word k m fs =
-    if same k kinds.Plus then (ended m >>= λ t. Some (Part (Sum t), fs))
-    else if same k kinds.Minus then (at_minus m >>= λ n. Some (n, fs))
-    else if same k kinds.Star then (at_star m >>= λ n. Some (n, fs))
-    else if same k kinds.Slash then (at_slash m >>= λ n. Some (n, fs))
-    else if same k kinds.Null then (at_null m >>= λ n. Some (n, fs))
-    else if same k kinds.OpenRound then (at_open m >>= λ f. Some (Part Nothing, f ∷ fs))
-    else if same k kinds.CloseRound then (ended m >>= λ t. close t fs)
-    else if same k kinds.Comma then (ended m >>= λ t. next_argument t fs)
+    if same k kinds.Plus then plus_goes m fs
+    else if same k kinds.Minus then minus_goes m fs
+    else if same k kinds.Star then star_goes m fs
+    else if same k kinds.Slash then slash_goes m fs
+    else if same k kinds.Null then null_goes m fs
+    else if same k kinds.OpenRound then open_goes m fs
+    else if same k kinds.CloseRound then close_goes m fs
+    else if same k kinds.Comma then comma_goes m fs
     else None
 
 abbrev pub step : State → Token → Option State
 step s (word k) = at_word k s.0 s.1
-step s (name x) = at_name x s.0 >>= λ n. Some (n, s.1)
-step s (numeral n) = at_numeral n s.0 >>= λ m. Some (m, s.1)
+step s (name x) = at_name x s.0 and_then λ n. Some (n, s.1)
+step s (numeral n) = at_numeral n s.0 and_then λ m. Some (m, s.1)
 
 -- the state behind all the tokens, for any kind of state
 abbrev pub runs : {S : Type 0} → (S → Token → Option S) → S → List Token → Option S
 runs next s [] = Some s
-runs next s (t ∷ ts) = next s t >>= λ n. runs next n ts
+runs next s (t ∷ ts) = next s t and_then λ n. runs next n ts
 
 abbrev pub run : State → List Token → Option State
 run = runs step

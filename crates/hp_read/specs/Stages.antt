@@ -15,7 +15,7 @@ use Rattle.hp_read.specs.declared.stage.Variables.{Variables}
 use Rattle.hp_read.specs.declared.stage.Variables.TheVariants as variables
 use Rattle.hp_read.specs.Token.{Token, word, name, numeral, same}
 use Rattle.hp_read.specs.Declarations.{constants_of, variable_of}
-use Rattle.hp_read.specs.Machine.{◌>>=◌}
+use Rattle.hp_read.specs.Machine.{◌and_then◌}
 
 unfoldable pub sort_of : Kind → Option Sort
 sort_of k =
@@ -27,7 +27,7 @@ sort_of k =
 -- behind `const`
 abbrev pub constants_word : Kind → Constants → Option Constants
 constants_word k (constants.Named xs) = if same k kinds.Comma then Some (constants.Name xs) else if same k kinds.Colon then Some (constants.Colon xs) else None
-constants_word k (constants.Colon xs) = sort_of k >>= λ s. Some (constants.Sorted xs s)
+constants_word k (constants.Colon xs) = sort_of k and_then λ s. Some (constants.Sorted xs s)
 constants_word k c = None
 
 abbrev pub constants_name : List ℕ → Constants → Option Constants
@@ -46,10 +46,10 @@ constants_end c = None
 -- behind `fun`
 abbrev pub function_word : Kind → Function → Option Function
 function_word k (function.Named x) = if same k kinds.OpenRound then Some (function.Argument x []) else None
-function_word k (function.Argument x ss) = sort_of k >>= λ s. Some (function.Sorted x (ss ++ s ∷ []))
+function_word k (function.Argument x ss) = sort_of k and_then λ s. Some (function.Sorted x (ss ++ s ∷ []))
 function_word k (function.Sorted x ss) = if same k kinds.Comma then Some (function.Argument x ss) else if same k kinds.CloseRound then Some (function.Closed x ss) else None
 function_word k (function.Closed x ss) = if same k kinds.Colon then Some (function.Colon x ss) else None
-function_word k (function.Colon x ss) = sort_of k >>= λ s. Some (function.Returning x ss s)
+function_word k (function.Colon x ss) = sort_of k and_then λ s. Some (function.Returning x ss s)
 function_word k (function.Returning x ss s) = if same k kinds.Level then Some (function.Level x ss s) else None
 function_word k f = None
 
@@ -73,7 +73,7 @@ function_end f = None
 -- behind `[`
 abbrev pub variables_word : Kind → Variables → Option Variables
 variables_word k (variables.Named vs x) = if same k kinds.Colon then Some (variables.Colon vs x) else None
-variables_word k (variables.Colon vs x) = sort_of k >>= λ s. Some (variables.Sorted (vs ++ variable_of x s ∷ []))
+variables_word k (variables.Colon vs x) = sort_of k and_then λ s. Some (variables.Sorted (vs ++ variable_of x s ∷ []))
 variables_word k (variables.Sorted vs) = if same k kinds.Comma then Some (variables.Name vs) else None
 variables_word k v = None
 

@@ -14,7 +14,7 @@ use Rattle.hp_read.specs.declared.stage.Stage.TheVariants.{Start, Profile, Numbe
 use Rattle.hp_read.specs.declared.stage.Progress.{Progress}
 use Rattle.hp_read.specs.Token.{Token, word, name, numeral, same}
 use Rattle.hp_read.specs.Problems.{clause_of, problem_of}
-use Rattle.hp_read.specs.Machine.{◌>>=◌}
+use Rattle.hp_read.specs.Machine.{◌and_then◌}
 use Rattle.hp_read.specs.BodyMachine.{begun, body_step, body_end}
 use Rattle.hp_read.specs.Stages.{constants_step, constants_end, function_step, function_end, variables_step, variables_end}
 
@@ -67,18 +67,18 @@ stage_step p Profile t = at_profile p t
 stage_step p Numbered t = if ends_with kinds.Semicolon t then Some (at p Whole) else None
 stage_step p Whole t = at_whole p t
 stage_step p (Constants c) t =
-    if ends_with kinds.Semicolon t then (constants_end c >>= λ ds. Some (with_declarations p ds))
-    else (constants_step c t >>= λ d. Some (at p (Constants d)))
+    if ends_with kinds.Semicolon t then (constants_end c and_then λ ds. Some (with_declarations p ds))
+    else (constants_step c t and_then λ d. Some (at p (Constants d)))
 stage_step p (Function f) t =
-    if ends_with kinds.Semicolon t then (function_end f >>= λ d. Some (with_declarations p (d ∷ [])))
-    else (function_step f t >>= λ g. Some (at p (Function g)))
+    if ends_with kinds.Semicolon t then (function_end f and_then λ d. Some (with_declarations p (d ∷ [])))
+    else (function_step f t and_then λ g. Some (at p (Function g)))
 stage_step p ClauseWord t = if ends_with kinds.OpenSquare t then Some (at p (Variables variables.First)) else None
 stage_step p (Variables v) t =
-    if ends_with kinds.CloseSquare t then (variables_end v >>= λ vs. Some (at p (Body false vs (begun First))))
-    else (variables_step v t >>= λ w. Some (at p (Variables w)))
+    if ends_with kinds.CloseSquare t then (variables_end v and_then λ vs. Some (at p (Body false vs (begun First))))
+    else (variables_step v t and_then λ w. Some (at p (Variables w)))
 stage_step p (Body q vs b) t =
-    if ends_with kinds.Semicolon t then (body_end b >>= λ r. Some (with_item p (clause_of q vs r.0 r.1)))
-    else (body_step b t >>= λ c. Some (at p (Body q vs c)))
+    if ends_with kinds.Semicolon t then (body_end b and_then λ r. Some (with_item p (clause_of q vs r.0 r.1)))
+    else (body_step b t and_then λ c. Some (at p (Body q vs c)))
 
 abbrev pub top_step : Progress → Token → Option Progress
 top_step s t = stage_step s.made s.stage t
