@@ -7,3 +7,4 @@ pub mod BodyOnly
 pub mod BodyFinish
 pub mod Layers
 pub mod Declared
+pub mod DeclaredOnly
