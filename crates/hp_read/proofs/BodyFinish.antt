@@ -18,7 +18,7 @@ use Rattle.hp_read.specs.declared.body.Body.TheVariants.{Reading, Closed}
 use Rattle.hp_read.specs.Token.{Token, word, name, numeral, same, AreTokens}
 use Rattle.hp_read.specs.Bodies.{atom_of, relation, SpellsBody}
 use Rattle.hp_read.specs.Machine.{◌and_then◌, State, ended, runs}
-use Rattle.hp_read.specs.BodyMachine.{begun, atom_end, at_arrow, last, body_step, body_end, body_word, and_goes, arrow_goes, or_goes, other_goes}
+use Rattle.hp_read.specs.BodyMachine.{begun, atom_end, at_arrow, last, body_step, body_end, body_word, head_goes, false_goes, and_goes, arrow_goes, or_goes, other_goes}
 use Rattle.hp_read.proofs.Machines.{bound, runs_on, result_of, are_both, Reads}
 use Rattle.hp_read.proofs.Finish.{finishes, x}
 use Rattle.hp_read.proofs.BodyFound.{body_is}
@@ -37,7 +37,7 @@ led b c u h e k = record { tokens = u ++ k.tokens; real = are_both u k.tokens h 
     result = ap (λ o. o and_then body_end) (runs_on body_step u k.tokens b c e) ∙ k.result }
 
 place_ending : (p : Place) (d : Side) (m : Mode) (a : Atom) → atom_end d m [] ≡ Some a → Ending (Reading p d m [])
-unfolding same body_word and_goes arrow_goes or_goes other_goes
+unfolding same body_word head_goes false_goes and_goes arrow_goes or_goes other_goes
 place_ending First d m a e = record { tokens = []; real = tt; guard = []; head = a ∷ []; result = ap (λ o. o and_then last First) e }
 place_ending (Guard bs) d m a e = led (Reading (Guard bs) d m []) (Closed (bs ++ a ∷ [])) (word kinds.Arrow ∷ word kinds.False ∷ []) (refl, (refl, tt))
     (ap (λ (o : Option Atom). (o and_then λ b. at_arrow (Guard bs) b and_then λ q. Some (begun q)) and_then λ c. runs body_step c (word kinds.False ∷ [])) e)
@@ -52,7 +52,7 @@ right_ending p t c m fs =
       (place_ending p (Right t c) k.last (atom_of t c k.term) (ap (λ o. o and_then λ b. Some (atom_of t c b)) k.ended))
 
 ending : (b : Body) → Ending b
-unfolding same relation body_word and_goes arrow_goes or_goes other_goes
+unfolding same relation body_word head_goes false_goes and_goes arrow_goes or_goes other_goes
 ending (Closed g) = record { tokens = []; real = tt; guard = g; head = []; result = refl }
 ending (Reading p (Right t c) m fs) = right_ending p t c m fs
 ending (Reading p Left m fs) =

@@ -19,7 +19,7 @@ use Rattle.hp_read.specs.Token.{Token, word, name, numeral, same}
 use Rattle.hp_read.specs.Grammar.{SpellsTerm}
 use Rattle.hp_read.specs.Bodies.{relation, atom_of, Separated, one, more, SpellsAtom, SpellsAtoms, SpellsGuard, none, some, SpellsHead, empty, atoms, SpellsBody, body}
 use Rattle.hp_read.specs.Machine.{◌and_then◌, State, step, ended, runs}
-use Rattle.hp_read.specs.BodyMachine.{begun, outermost, atom_end, at_and, at_arrow, at_or, last, at_relation, at_false, in_term, relation_or_term, body_word, body_step, body_end, and_goes, arrow_goes, or_goes, other_goes}
+use Rattle.hp_read.specs.BodyMachine.{begun, outermost, atom_end, at_and, at_arrow, at_or, last, at_relation, at_false, in_term, relation_or_term, body_word, body_step, body_end, head_goes, false_goes, and_goes, arrow_goes, or_goes, other_goes}
 use Rattle.hp_read.proofs.Machines.{bound}
 use Rattle.hp_read.proofs.Found.{StateIs, ended_is, step_is, ◌and◌}
 
@@ -162,7 +162,7 @@ either_is k None p d m fs u c q h e = term_step_is p d m fs u (word k) c h e
 
 body_word_is : (k : Kind) (p : Place) (d : Side) (m : Mode) (fs : List Frame) (u : List Token) (c : Body) → ReadingIs p d m fs u
     → body_word k p d m fs ≡ Some c → BodyIs c (u and word k)
-unfolding same body_word and_goes arrow_goes or_goes other_goes
+unfolding same body_word head_goes false_goes and_goes arrow_goes or_goes other_goes
 body_word_is kinds.And p d m fs u c h e = place_is at_and kinds.And p d m fs u c h (λ q x y a. and_is p q x y a) e
 body_word_is kinds.Arrow p d m fs u c h e = place_is at_arrow kinds.Arrow p d m fs u c h (λ q x y a. arrow_is p q x y a) e
 body_word_is kinds.Or p d m fs u c h e = place_is at_or kinds.Or p d m fs u c h (λ q x y a. or_is p q x y a) e

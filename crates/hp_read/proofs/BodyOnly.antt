@@ -18,15 +18,15 @@ use Rattle.hp_read.specs.declared.body.Body.TheVariants.{Reading, Closed}
 use Rattle.hp_read.specs.Token.{Token, word, name, numeral, same}
 use Rattle.hp_read.specs.Grammar.{SpellsTerm}
 use Rattle.hp_read.specs.Bodies.{relation, atom_of, Separated, one, more, SpellsAtom, SpellsAtoms, SpellsGuard, none, some, SpellsHead, empty, atoms, SpellsBody, body}
-use Rattle.hp_read.specs.Machine.{◌and_then◌, State, step, ended, run, runs, at_word}
-use Rattle.hp_read.specs.BodyMachine.{begun, outermost, atom_end, at_and, at_arrow, at_or, last, at_relation, at_false, in_term, relation_or_term, body_word, body_step, body_end, and_goes, arrow_goes, or_goes, other_goes}
+use Rattle.hp_read.specs.Machine.{◌and_then◌, State, step, ended, run, runs, at_word, number_goes, factor_goes, end_goes}
+use Rattle.hp_read.specs.BodyMachine.{begun, outermost, atom_end, at_and, at_arrow, at_or, last, at_relation, at_false, in_term, relation_or_term, body_word, body_step, body_end, head_goes, false_goes, and_goes, arrow_goes, or_goes, other_goes}
 use Rattle.hp_read.proofs.Machines.{bound, runs_on, result_of}
 use Rattle.hp_read.proofs.Only.{term_ends, Ends}
 
 -- a token that a term goes on with is one that its body goes on with
 word_in_body : (k : Kind) (p : Place) (d : Side) (m : Mode) (fs : List Frame) (n : State) → step (m, fs) (word k) ≡ Some n
     → body_word k p d m fs ≡ Some (Reading p d n.0 n.1)
-unfolding same relation at_word body_word and_goes arrow_goes or_goes other_goes
+unfolding same relation at_word number_goes factor_goes end_goes head_goes body_word and_goes arrow_goes or_goes other_goes
 word_in_body kinds.And p d m fs n e = absurd (cc)
 word_in_body kinds.Arrow p d m fs n e = absurd (cc)
 word_in_body kinds.Or p d m fs n e = absurd (cc)
@@ -64,7 +64,7 @@ right_of o c = o and_then λ b. Some (Right b c, (Part Nothing, []))
 
 pub at_relation_word : (k : Kind) (c : Cmp) (p : Place) (m : Mode) (a : Term) → relation k ≡ Some c → ended m ≡ Some a
     → body_word k p Left m [] ≡ Some (Reading p (Right a c) (Part Nothing) [])
-unfolding same relation body_word and_goes arrow_goes or_goes other_goes
+unfolding same relation body_word head_goes false_goes and_goes arrow_goes or_goes other_goes
 at_relation_word kinds.And c p m a q e = absurd (cc)
 at_relation_word kinds.Arrow c p m a q e = absurd (cc)
 at_relation_word kinds.Or c p m a q e = absurd (cc)
@@ -102,7 +102,7 @@ pub record GuardEnds (u : List Token) (bs : List Atom) : Type 0 where
   pub arrow : at_arrow place atom ≡ Some (Bare bs)
 
 guard_ends : (u : List Token) (bs : List Atom) → SpellsAtoms kinds.And u bs → GuardEnds u bs
-unfolding same body_word and_goes arrow_goes or_goes other_goes
+unfolding same body_word head_goes false_goes and_goes arrow_goes or_goes other_goes
 guard_ends u bs (one v a h) =
     let k = atom_ends First v a h in
     record { place = First; side = k.side; mode = k.mode; atom = a; goes = k.goes; ended = k.ended; and = refl; arrow = refl }
@@ -131,7 +131,7 @@ pub record BeginsHead (p : Place) (gs : List Atom) : Type 0 where
   pub false_goes : at_false p Left (Part Nothing) [] ≡ Some (Closed gs)
 
 head_ends : (p : Place) (gs : List Atom) (u : List Token) (bs : List Atom) → BeginsHead p gs → SpellsAtoms kinds.Or u bs → HeadEnds p gs u bs
-unfolding same body_word and_goes arrow_goes or_goes other_goes
+unfolding same body_word head_goes false_goes and_goes arrow_goes or_goes other_goes
 head_ends p gs u bs h (one v a g) =
     let k = atom_ends p v a g in
     record { place = p; side = k.side; mode = k.mode; atom = a; goes = k.goes; ended = k.ended; or = h.or a; all = h.all a }
@@ -145,14 +145,14 @@ head_ends p gs u bs h (more v w cs a g i) =
 
 -- a head read at p
 head_read : (p : Place) (gs : List Atom) (u : List Token) (bs : List Atom) → BeginsHead p gs → SpellsHead u bs → result_of body_step body_end (begun p) u ≡ Some (gs, bs)
-unfolding same body_word and_goes arrow_goes or_goes other_goes
+unfolding same body_word head_goes false_goes and_goes arrow_goes or_goes other_goes
 head_read p gs u bs h empty = ap (λ o. (o and_then λ b. Some b) and_then body_end) h.false_goes
 head_read p gs u bs h (atoms v cs g) =
     let k = head_ends p gs v cs h g in
     ap (λ o. o and_then body_end) k.goes ∙ (ap (λ o. o and_then last k.place) k.ended ∙ k.all)
 
 pub body_read : (u : List Token) (gs bs : List Atom) → SpellsBody u gs bs → result_of body_step body_end (begun First) u ≡ Some (gs, bs)
-unfolding same body_word and_goes arrow_goes or_goes other_goes
+unfolding same body_word head_goes false_goes and_goes arrow_goes or_goes other_goes
 body_read u gs bs (body v w g h none k) = head_read First [] w h (record { or = λ a. refl; all = λ a. refl; false_goes = refl }) k
 body_read u gs bs (body v w g h (some x cs i) k) =
     let l = guard_ends x cs i in

@@ -12,7 +12,7 @@ use Rattle.hp_read.specs.declared.state.Front.TheVariants.{Nothing}
 use Rattle.hp_read.specs.Token.{Token, word, name, numeral, same, AreTokens}
 use Rattle.hp_read.specs.Tree.{number_of, named, apply}
 use Rattle.hp_read.specs.Grammar.{SpellsTerm}
-use Rattle.hp_read.specs.Machine.{◌and_then◌, joined, scaled, ended, State, step, run, runs, close, at_word, plus_goes, minus_goes, star_goes, slash_goes, null_goes, open_goes, close_goes, comma_goes}
+use Rattle.hp_read.specs.Machine.{◌and_then◌, joined, scaled, ended, State, step, run, runs, close, at_word, number_goes, factor_goes, end_goes, plus_goes, minus_goes, star_goes, slash_goes, null_goes, open_goes, close_goes, comma_goes}
 use Rattle.hp_read.proofs.Machines.{runs_on, bound, result_of, are_both, Reads}
 use Rattle.hp_read.proofs.Found.{term_is}
 use Rattle.hp_read.proofs.Only.{term_ends}
@@ -34,7 +34,7 @@ abbrev pub x : Token
 x = name (120 ∷ [])
 
 pub mode_finishes : (m : Mode) (fs : List Frame) → Finishes m fs fs
-unfolding same at_word plus_goes minus_goes star_goes slash_goes null_goes open_goes close_goes comma_goes
+unfolding same at_word number_goes factor_goes end_goes plus_goes minus_goes star_goes slash_goes null_goes open_goes close_goes comma_goes
 mode_finishes (Part f) fs = record { tokens = x ∷ []; real = (refl, tt); last = Named f None (120 ∷ []); term = joined f (named (120 ∷ [])); goes = refl; ended = refl }
 mode_finishes (Whole f n) fs = record { tokens = []; real = tt; last = Whole f n; term = joined f (number_of (ratio (pos n) 1)); goes = refl; ended = refl }
 mode_finishes (Over f n) fs = record { tokens = numeral 1 ∷ []; real = (refl, tt); last = Ratio f (ratio (pos n) 1); term = joined f (number_of (ratio (pos n) 1)); goes = refl; ended = refl }
@@ -44,7 +44,7 @@ mode_finishes (Named f s y) fs = record { tokens = []; real = tt; last = Named f
 mode_finishes (Done f s t) fs = record { tokens = []; real = tt; last = Done f s t; term = joined f (scaled s t); goes = refl; ended = refl }
 
 frames_finish : (fs : List Frame) (m : Mode) (t : Term) → ended m ≡ Some t → Finishes m fs []
-unfolding same at_word plus_goes minus_goes star_goes slash_goes null_goes open_goes close_goes comma_goes
+unfolding same at_word number_goes factor_goes end_goes plus_goes minus_goes star_goes slash_goes null_goes open_goes close_goes comma_goes
 frames_finish [] m t e = record { tokens = []; real = tt; last = m; term = t; goes = refl; ended = e }
 frames_finish (Group f s ∷ fs) m t e =
     let k = frames_finish fs (Done f s t) (joined f (scaled s t)) refl in

@@ -14,7 +14,7 @@ use Rattle.hp_read.specs.declared.state.Frame.TheVariants.{Group, Call}
 use Rattle.hp_read.specs.Token.{Token, word, name, numeral, same}
 use Rattle.hp_read.specs.Tree.{number_of, null, named, apply, add, sub, neg, scale}
 use Rattle.hp_read.specs.Grammar.{SpellsNumber, SpellsTerm, SpellsPart, SpellsFactor, SpellsTerms, whole, fraction, part, minus, sum, difference, number, product, factor, single, call, nothing, group, first, more}
-use Rattle.hp_read.specs.Machine.{◌and_then◌, joined, scaled, ended, State, step, run, at_word, at_minus, at_star, at_slash, at_null, at_name, at_numeral, at_open, close, next_argument, plus_goes, minus_goes, star_goes, slash_goes, null_goes, open_goes, close_goes, comma_goes}
+use Rattle.hp_read.specs.Machine.{◌and_then◌, joined, scaled, ended, State, step, run, at_word, at_minus, at_star, at_slash, at_null, at_name, at_numeral, at_open, close, next_argument, number_goes, factor_goes, end_goes, plus_goes, minus_goes, star_goes, slash_goes, null_goes, open_goes, close_goes, comma_goes}
 
 -- one token at the end
 infixl 20 ◌and◌
@@ -287,7 +287,7 @@ moved fs o m n u k h next e =
     subst (λ z. StateIs z (u and k)) same (in_mode fs m b.0 u k h (λ v. next b.0 v b.1))
 
 word_is : (k : Kind) (m : Mode) (fs : List Frame) (n : State) (u : List Token) → StateIs (m, fs) u → at_word k m fs ≡ Some n → StateIs n (u and word k)
-unfolding same at_word plus_goes minus_goes star_goes slash_goes null_goes open_goes close_goes comma_goes
+unfolding same at_word number_goes factor_goes end_goes plus_goes minus_goes star_goes slash_goes null_goes open_goes close_goes comma_goes
 word_is kinds.Plus m fs n u h e =
     let b = bound (ended m) (λ t. Some (Part (Sum t), fs)) n e in
     let same : (Part (Sum b.0), fs) ≡ n = cc (b.2) in

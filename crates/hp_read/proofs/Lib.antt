@@ -8,3 +8,4 @@ pub mod BodyFinish
 pub mod Layers
 pub mod Declared
 pub mod DeclaredOnly
+pub mod TopFound

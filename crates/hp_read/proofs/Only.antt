@@ -15,7 +15,7 @@ use Rattle.hp_read.proofs.Found.{bound}
 use Rattle.hp_read.specs.Token.{Token, word, name, numeral, same}
 use Rattle.hp_read.specs.Tree.{number_of, null, named, apply, add, sub, neg, scale}
 use Rattle.hp_read.specs.Grammar.{SpellsNumber, SpellsTerm, SpellsPart, SpellsFactor, SpellsTerms, whole, fraction, part, minus, sum, difference, number, product, factor, single, call, nothing, group, first, more}
-use Rattle.hp_read.specs.Machine.{◌and_then◌, joined, scaled, ended, State, step, run, at_word, at_minus, at_star, at_slash, at_null, at_name, at_numeral, at_open, close, next_argument, plus_goes, minus_goes, star_goes, slash_goes, null_goes, open_goes, close_goes, comma_goes}
+use Rattle.hp_read.specs.Machine.{◌and_then◌, joined, scaled, ended, State, step, run, at_word, at_minus, at_star, at_slash, at_null, at_name, at_numeral, at_open, close, next_argument, number_goes, factor_goes, end_goes, plus_goes, minus_goes, star_goes, slash_goes, null_goes, open_goes, close_goes, comma_goes}
 
 -- reading u goes from one state to the other
 abbrev pub Goes : State → List Token → State → Type 0
@@ -40,7 +40,7 @@ wanting f (Some q) = Times f q
 
 number_ends : (u : List Token) (q : ℚ) → SpellsNumber u q → (f : Front) (fs : List Frame)
     → (m : Mode) × Goes (Part f, fs) u (m, fs) × (ended m ≡ Some (joined f (number_of q))) × (at_star m ≡ Some (Times f q))
-unfolding same at_word plus_goes minus_goes star_goes slash_goes null_goes open_goes close_goes comma_goes
+unfolding same at_word number_goes factor_goes end_goes plus_goes minus_goes star_goes slash_goes null_goes open_goes close_goes comma_goes
 number_ends u q (whole n) f fs = (Whole f n, refl, refl, refl)
 number_ends u q (fraction n zero h) f fs = absurd (omega arith)
 number_ends u q (fraction n (suc d) h) f fs = (Ratio f (ratio (pos n) (suc d)), refl, refl, refl)
@@ -76,7 +76,7 @@ minus_at_end (Named f s x) t e = ap (λ o. o and_then λ a. Some (Part (Differen
 minus_at_end (Done f s a) t e = ap (λ o. o and_then λ a. Some (Part (Difference a))) e
 
 mutual
-  unfolding same at_word plus_goes minus_goes star_goes slash_goes null_goes open_goes close_goes comma_goes
+  unfolding same at_word number_goes factor_goes end_goes plus_goes minus_goes star_goes slash_goes null_goes open_goes close_goes comma_goes
   pub term_ends : (u : List Token) (t : Term) → SpellsTerm u t → (fs : List Frame) → Ends (Part Nothing) fs u t
   term_ends u t (part v a h) fs = part_ends u t h Nothing fs
   term_ends u t (minus v a h) fs =

@@ -84,14 +84,22 @@ or_goes p d m fs = atom_end d m fs and_then λ a. at_or p a and_then λ q. Some 
 unfoldable pub other_goes : Kind → Place → Side → Mode → List Frame → Option Body
 other_goes k p d m fs = relation_or_term (relation k) k p d m fs
 
+unfoldable pub false_goes : Place → Side → Mode → List Frame → Option Body
+false_goes p d m fs = at_false p d m fs
+
+-- behind `|` and `false`, and inside an atom
+unfoldable pub head_goes : Kind → Place → Side → Mode → List Frame → Option Body
+head_goes k p d m fs =
+    if same k kinds.Or then or_goes p d m fs
+    else if same k kinds.False then false_goes p d m fs
+    else other_goes k p d m fs
+
 -- the body behind one more word or sign, if it may stand there
 unfoldable pub body_word : Kind → Place → Side → Mode → List Frame → Option Body
 body_word k p d m fs =
     if same k kinds.And then and_goes p d m fs
     else if same k kinds.Arrow then arrow_goes p d m fs
-    else if same k kinds.Or then or_goes p d m fs
-    else if same k kinds.False then at_false p d m fs
-    else other_goes k p d m fs
+    else head_goes k p d m fs
 
 abbrev pub body_step : Body → Token → Option Body
 body_step (Closed g) k = None

@@ -110,18 +110,33 @@ close_goes m fs = ended m and_then λ t. close t fs
 unfoldable pub comma_goes : Mode → List Frame → Option State
 comma_goes m fs = ended m and_then λ t. next_argument t fs
 
+-- behind `)` and `,`
+unfoldable pub end_goes : Kind → Mode → List Frame → Option State
+end_goes k m fs =
+    if same k kinds.CloseRound then close_goes m fs
+    else if same k kinds.Comma then comma_goes m fs
+    else None
+
+-- behind `null` and `(`, and what ends
+unfoldable pub factor_goes : Kind → Mode → List Frame → Option State
+factor_goes k m fs =
+    if same k kinds.Null then null_goes m fs
+    else if same k kinds.OpenRound then open_goes m fs
+    else end_goes k m fs
+
+-- behind `*` and `/`, and what is no number
+unfoldable pub number_goes : Kind → Mode → List Frame → Option State
+number_goes k m fs =
+    if same k kinds.Star then star_goes m fs
+    else if same k kinds.Slash then slash_goes m fs
+    else factor_goes k m fs
+
 -- the state behind one more word or sign, if it may stand there
 unfoldable pub at_word : Kind → Mode → List Frame → Option State
 at_word k m fs =
     if same k kinds.Plus then plus_goes m fs
     else if same k kinds.Minus then minus_goes m fs
-    else if same k kinds.Star then star_goes m fs
-    else if same k kinds.Slash then slash_goes m fs
-    else if same k kinds.Null then null_goes m fs
-    else if same k kinds.OpenRound then open_goes m fs
-    else if same k kinds.CloseRound then close_goes m fs
-    else if same k kinds.Comma then comma_goes m fs
-    else None
+    else number_goes k m fs
 
 abbrev pub step : State → Token → Option State
 step s (word k) = at_word k s.0 s.1

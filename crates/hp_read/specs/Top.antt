@@ -41,13 +41,18 @@ abbrev pub declaration : Problem → List Clause → Stage → Option Progress
 declaration p [] s = Some (at p s)
 declaration p (c ∷ cs) s = None
 
-abbrev pub between : Problem → Kind → Option Progress
+unfoldable pub item_goes : Problem → Kind → Option Progress
+item_goes p k =
+    if same k kinds.Clause then Some (at p ClauseWord)
+    else if same k kinds.Query then Some (at p (Body true [] (begun First)))
+    else None
+
+-- a declaration or an item begins
+unfoldable pub between : Problem → Kind → Option Progress
 between p k =
     if same k kinds.Const then declaration p p.clauses (Constants (constants.Name []))
     else if same k kinds.Fun then declaration p p.clauses (Function function.Name)
-    else if same k kinds.Clause then Some (at p ClauseWord)
-    else if same k kinds.Query then Some (at p (Body true [] (begun First)))
-    else None
+    else item_goes p k
 
 abbrev pub at_start : Problem → Token → Option Progress
 at_start p (word k) = if same k kinds.Profile then Some (at p Profile) else between p k
