@@ -9,3 +9,4 @@ pub mod Layers
 pub mod Declared
 pub mod DeclaredOnly
 pub mod TopFound
+pub mod TopOnly
