@@ -10,3 +10,5 @@ pub mod Declared
 pub mod DeclaredOnly
 pub mod TopFound
 pub mod TopOnly
+pub mod Bytes
+pub mod BytesLaws

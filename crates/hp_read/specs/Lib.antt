@@ -11,3 +11,4 @@ pub mod Declarations
 pub mod Problems
 pub mod Stages
 pub mod Top
+pub mod Spells

@@ -2,6 +2,8 @@
 #![tactic(auto)]
 
 mod body;
+mod counts;
+mod fault;
 mod stack;
 mod stage;
 mod state;
@@ -9,6 +11,8 @@ mod stop;
 mod symbol;
 
 pub use body::{Body, Place, Side};
+pub use counts::Counts;
+pub use fault::ReadErr;
 pub use stack::Stack;
 pub use stage::{Constants, Function, Progress, Stage, Variables};
 pub use state::{Frame, Front, Mode};
