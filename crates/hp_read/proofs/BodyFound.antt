@@ -153,6 +153,8 @@ false_is First Left (Part Nothing) [] u c h e = let same : Closed [] ≡ c = cc 
 false_is (Bare g) Left (Part Nothing) [] u c h e = let same : Closed g ≡ c = cc in
     subst (λ z. BodyIs z (u and word kinds.False)) same
       (h.place_tokens, h.place, rw (h.split, h.side, h.term.split, h.term.frames, h.term.mode) (simp (append_assoc, append-nil)))
+false_is First Left m (f ∷ fs) u c h e = absurd (cc)
+false_is (Bare g) Left m (f ∷ fs) u c h e = absurd (cc)
 false_is p d m fs u c h e = absurd (cc)
 
 either_is : (k : Kind) (o : Option Cmp) (p : Place) (d : Side) (m : Mode) (fs : List Frame) (u : List Token) (c : Body) → relation k ≡ o → ReadingIs p d m fs u

@@ -18,7 +18,9 @@ use Rattle.hp_read.specs.Counts.{count, counted, nothing_counted}
 use Rattle.hp_read.specs.Faults.{IsWithin}
 use Rattle.hp_read.specs.Problems.{SpellsProblem}
 use Rattle.hp_read.specs.Top.{started, top_step, top_end}
-use Rattle.hp_read.specs.Spells.{symbol_of, symbols, Spells, IsMisplaced, IsNoToken, IsUnfinished, IsPastLimit, IsFault, IsReading, fault_of}
+use Rattle.hp_read.specs.Symbols.{symbol_of, symbols}
+use Rattle.hp_read.specs.Spells.{Spells, IsMisplaced, IsNoToken, IsUnfinished, IsPastLimit, IsFault, IsReading}
+use Rattle.hp_read.specs.Causes.{fault_of}
 use Rattle.hp_read.proofs.Machines.{runs_on, runs_one, runs_none, one_value, begins, refused_at, deep_at, early_at}
 use Rattle.hp_read.proofs.TopOnly.{problems_read}
 

@@ -1,5 +1,5 @@
 -- Bytes spell one problem, or have a fault.
-use Rattle.std.proofs.Common.{◌≡◌, ◌≢◌, ℕ, List, [], ◌∷◌, ◌++◌, length, Option, Some, None, Result, Ok, Err, refl, sym, ap, subst, ◌∙◌, append_assoc, append-nil, ◌⊎◌, inl, inr}
+use Rattle.std.proofs.Common.{◌≡◌, ◌≢◌, ℕ, List, [], ◌∷◌, ◌++◌, length, Option, Some, None, Result, Ok, Err, IfOk, IfErr, refl, sym, ap, subst, ◌∙◌, append_assoc, append-nil, ◌⊎◌, inl, inr}
 use Rattle.hp_ast.specs.declared.problem.Problem.{Problem}
 use Rattle.hp_text.specs.declared.token.Kind.TheVariants as kinds
 use Rattle.hp_text.specs.declared.token.Token.{Token as Placed}
@@ -15,7 +15,8 @@ use Rattle.hp_read.specs.Machine.{◌and_then◌, runs}
 use Rattle.hp_read.specs.Counts.{count, counted, nothing_counted}
 use Rattle.hp_read.specs.Problems.{SpellsProblem}
 use Rattle.hp_read.specs.Top.{started, top_step, top_end}
-use Rattle.hp_read.specs.Spells.{symbol_of, symbols, Spells, IsMisplaced, IsNoToken, IsUnfinished, IsPastLimit, IsFault}
+use Rattle.hp_read.specs.Symbols.{symbol_of, symbols}
+use Rattle.hp_read.specs.Spells.{Spells, IsMisplaced, IsNoToken, IsUnfinished, IsPastLimit, IsFault}
 use Rattle.hp_read.proofs.Machines.{bound, runs_on, one_value}
 use Rattle.hp_read.proofs.TopOnly.{problems_read}
 use Rattle.hp_read.proofs.Bytes.{symbols-append}
@@ -99,3 +100,9 @@ one_problem bytes p q s r =
     let one = (one_lexing bytes).one s.tokens r.tokens (Ok s.last) (Ok r.last) s.lexes r.lexes in
     one_value top_step top_end started SpellsProblem problems_read (symbols bytes r.tokens) p q
       (subst (λ z. SpellsProblem (symbols bytes z) p) one.0 s.spelled) r.spelled
+
+-- what the reader answers where the bytes spell a problem
+pub read_only : (bytes : List ℕ) (r : Result Problem ReadErr) → IfOk r (Spells bytes) → IfErr r (IsFault bytes) → (p : Problem) → Spells bytes p
+    → (r ≡ Ok p) ⊎ (r ≡ Err Memory)
+read_only bytes (Ok q) h k p s = inl (ap (λ z. Ok z) (one_problem bytes q p h s))
+read_only bytes (Err e) h k p s = inr (ap (λ z. Err z) (no_fault bytes p e s k))

@@ -6,12 +6,12 @@ use Rattle.hp_ast.specs.declared.problem.Sort.{Sort}
 use Rattle.hp_ast.specs.declared.problem.Sort.TheVariants as sorts
 use Rattle.hp_ast.specs.declared.problem.Var.{Var}
 use Rattle.hp_text.specs.declared.token.Kind.TheVariants as kinds
-use Rattle.hp_read.specs.declared.stage.Constants.{Constants}
-use Rattle.hp_read.specs.declared.stage.Constants.TheVariants as c
-use Rattle.hp_read.specs.declared.stage.Function.{Function}
-use Rattle.hp_read.specs.declared.stage.Function.TheVariants as f
-use Rattle.hp_read.specs.declared.stage.Variables.{Variables}
-use Rattle.hp_read.specs.declared.stage.Variables.TheVariants as v
+use Rattle.hp_read.specs.declared.lines.Constants.{Constants}
+use Rattle.hp_read.specs.declared.lines.Constants.TheVariants as c
+use Rattle.hp_read.specs.declared.lines.Function.{Function}
+use Rattle.hp_read.specs.declared.lines.Function.TheVariants as f
+use Rattle.hp_read.specs.declared.lines.Variables.{Variables}
+use Rattle.hp_read.specs.declared.lines.Variables.TheVariants as v
 use Rattle.hp_read.specs.Token.{Token, word, name, numeral, same, AreTokens}
 use Rattle.hp_read.specs.Declarations.{SpellsSort, num, idx, ptr, SpellsName, called, SpellsConstants, constants, constants_of, SpellsFunction, function, SpellsVariable, variable, variable_of, SpellsVariables, none, some}
 use Rattle.hp_read.specs.Machine.{◌and_then◌, runs}

@@ -12,3 +12,4 @@ pub mod TopFound
 pub mod TopOnly
 pub mod Bytes
 pub mod BytesLaws
+pub mod Symbols

@@ -11,12 +11,12 @@ use Rattle.hp_text.specs.declared.token.Kind.{Kind}
 use Rattle.hp_text.specs.declared.token.Kind.TheVariants as kinds
 use Rattle.hp_read.specs.declared.body.Body.{Body as BodyState}
 use Rattle.hp_read.specs.declared.body.Place.TheVariants.{First}
-use Rattle.hp_read.specs.declared.stage.Constants.{Constants as ConstantsState}
-use Rattle.hp_read.specs.declared.stage.Constants.TheVariants as c
-use Rattle.hp_read.specs.declared.stage.Function.{Function as FunctionState}
-use Rattle.hp_read.specs.declared.stage.Function.TheVariants as f
-use Rattle.hp_read.specs.declared.stage.Variables.{Variables as VariablesState}
-use Rattle.hp_read.specs.declared.stage.Variables.TheVariants as v
+use Rattle.hp_read.specs.declared.lines.Constants.{Constants as ConstantsState}
+use Rattle.hp_read.specs.declared.lines.Constants.TheVariants as c
+use Rattle.hp_read.specs.declared.lines.Function.{Function as FunctionState}
+use Rattle.hp_read.specs.declared.lines.Function.TheVariants as f
+use Rattle.hp_read.specs.declared.lines.Variables.{Variables as VariablesState}
+use Rattle.hp_read.specs.declared.lines.Variables.TheVariants as v
 use Rattle.hp_read.specs.declared.stage.Stage.{Stage}
 use Rattle.hp_read.specs.declared.stage.Stage.TheVariants.{Start, Profile, Numbered, Whole, Constants, Function, Clause as ClauseWord, Variables, Body}
 use Rattle.hp_read.specs.declared.stage.Progress.{Progress}
@@ -28,7 +28,7 @@ use Rattle.hp_read.specs.Problems as grammar
 use Rattle.hp_read.specs.Machine.{◌and_then◌, runs}
 use Rattle.hp_read.specs.BodyMachine.{begun, body_step, body_end}
 use Rattle.hp_read.specs.Stages.{constants_step, constants_end, function_step, function_end, variables_step, variables_end}
-use Rattle.hp_read.specs.Top.{at, started, with_declarations, with_item, ends_with, declaration, between, item_goes, at_start, at_profile, at_whole, stage_step, top_step, stage_end, top_end}
+use Rattle.hp_read.specs.Top.{at, started, with_declarations, with_item, ends_with, declaration, between, item_goes, at_start, at_profile, at_whole, at_numbered, at_clause, constants_stage, function_stage, variables_stage, body_stage, stage_step, top_step, stage_end, top_end}
 use Rattle.hp_read.proofs.Machines.{bound, runs_on, runs_one, result_of, Reads}
 use Rattle.hp_read.proofs.Found.{◌and◌}
 use Rattle.hp_read.proofs.BodyFinish.{SpellsPair, bodies_read}
@@ -142,6 +142,7 @@ between_is p k n u h e =
     ]
 
 start_is : (p : Problem) (t : Token) (n : Progress) (u : List Token) → StageIs p Start u → at_start p t ≡ Some n → ProgressIs n (u and t)
+unfolding at_start
 start_is p (word k) n u h e =
     elim (choice (same k kinds.Profile) _ _ n e) [
       inl g ↦ let z : at p Profile ≡ n = cc in
@@ -152,6 +153,7 @@ start_is p (name x) n u h e = absurd (cc)
 start_is p (numeral m) n u h e = absurd (cc)
 
 profile_is : (p : Problem) (t : Token) (n : Progress) (u : List Token) → StageIs p Profile u → at_profile p t ≡ Some n → ProgressIs n (u and t)
+unfolding at_profile
 profile_is p (word k) n u h e = absurd (cc)
 profile_is p (name x) n u h e = absurd (cc)
 profile_is p (numeral m) n u h e =
@@ -163,6 +165,7 @@ profile_is p (numeral m) n u h e =
     ]
 
 numbered_is : (p : Problem) (t : Token) (n : Progress) (u : List Token) → StageIs p Numbered u → stage_step p Numbered t ≡ Some n → ProgressIs n (u and t)
+unfolding at_numbered
 numbered_is p t n u h e =
     elim (choice (ends_with kinds.Semicolon t) _ _ n e) [
       inl g ↦ let z : at p Whole ≡ n = cc in
@@ -172,11 +175,13 @@ numbered_is p t n u h e =
     ]
 
 whole_is : (p : Problem) (t : Token) (n : Progress) (u : List Token) → SpellsProblem u p → at_whole p t ≡ Some n → ProgressIs n (u and t)
+unfolding at_whole
 whole_is p (word k) n u h e = between_is p k n u h e
 whole_is p (name x) n u h e = absurd (cc)
 whole_is p (numeral m) n u h e = absurd (cc)
 
 constants_are : (p : Problem) (a : ConstantsState) (t : Token) (n : Progress) (u : List Token) → StageIs p (Constants a) u → stage_step p (Constants a) t ≡ Some n → ProgressIs n (u and t)
+unfolding constants_stage
 constants_are p a t n u h e =
     elim (choice (ends_with kinds.Semicolon t) _ _ n e) [
       inl g ↦ let b = bound (constants_end a) (λ ds. Some (with_declarations p ds)) n g.1 in
@@ -192,6 +197,7 @@ constants_are p a t n u h e =
     ]
 
 function_is : (p : Problem) (a : FunctionState) (t : Token) (n : Progress) (u : List Token) → StageIs p (Function a) u → stage_step p (Function a) t ≡ Some n → ProgressIs n (u and t)
+unfolding function_stage
 function_is p a t n u h e =
     elim (choice (ends_with kinds.Semicolon t) _ _ n e) [
       inl g ↦ let b = bound (function_end a) (λ d. Some (with_declarations p (d ∷ []))) n g.1 in
@@ -207,6 +213,7 @@ function_is p a t n u h e =
     ]
 
 clause_is : (p : Problem) (t : Token) (n : Progress) (u : List Token) → StageIs p ClauseWord u → stage_step p ClauseWord t ≡ Some n → ProgressIs n (u and t)
+unfolding at_clause
 clause_is p t n u h e =
     elim (choice (ends_with kinds.OpenSquare t) _ _ n e) [
       inl g ↦ let z : at p (Variables v.First) ≡ n = cc in
@@ -216,6 +223,7 @@ clause_is p t n u h e =
     ]
 
 variables_are : (p : Problem) (a : VariablesState) (t : Token) (n : Progress) (u : List Token) → StageIs p (Variables a) u → stage_step p (Variables a) t ≡ Some n → ProgressIs n (u and t)
+unfolding variables_stage
 variables_are p a t n u h e =
     elim (choice (ends_with kinds.CloseSquare t) _ _ n e) [
       inl g ↦ let b = bound (variables_end a) (λ vs. Some (at p (Body false vs (begun First)))) n g.1 in
@@ -238,6 +246,7 @@ whole_item false vs w u g h k b = rw k.2 (simp append_assoc (clause k.0 u vs g h
 
 body_stage_is : (p : Problem) (q : Bool) (vs : List Var) (a : BodyState) (t : Token) (n : Progress) (u : List Token) → StageIs p (Body q vs a) u
     → stage_step p (Body q vs a) t ≡ Some n → ProgressIs n (u and t)
+unfolding body_stage
 body_stage_is p q vs a t n u h e =
     elim (choice (ends_with kinds.Semicolon t) _ _ n e) [
       inl g ↦ let b = bound (body_end a) (λ r. Some (with_item p (clause_of q vs r.0 r.1))) n g.1 in

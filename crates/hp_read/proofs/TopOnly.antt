@@ -16,12 +16,12 @@ use Rattle.hp_read.specs.declared.body.Side.{Side}
 use Rattle.hp_read.specs.declared.body.Side.TheVariants.{Left, Right}
 use Rattle.hp_read.specs.declared.state.Mode.{Mode}
 use Rattle.hp_read.specs.declared.state.Frame.{Frame}
-use Rattle.hp_read.specs.declared.stage.Constants.{Constants as ConstantsState}
-use Rattle.hp_read.specs.declared.stage.Constants.TheVariants as c
-use Rattle.hp_read.specs.declared.stage.Function.{Function as FunctionState}
-use Rattle.hp_read.specs.declared.stage.Function.TheVariants as f
-use Rattle.hp_read.specs.declared.stage.Variables.{Variables as VariablesState}
-use Rattle.hp_read.specs.declared.stage.Variables.TheVariants as v
+use Rattle.hp_read.specs.declared.lines.Constants.{Constants as ConstantsState}
+use Rattle.hp_read.specs.declared.lines.Constants.TheVariants as c
+use Rattle.hp_read.specs.declared.lines.Function.{Function as FunctionState}
+use Rattle.hp_read.specs.declared.lines.Function.TheVariants as f
+use Rattle.hp_read.specs.declared.lines.Variables.{Variables as VariablesState}
+use Rattle.hp_read.specs.declared.lines.Variables.TheVariants as v
 use Rattle.hp_read.specs.declared.stage.Stage.{Stage}
 use Rattle.hp_read.specs.declared.stage.Stage.TheVariants.{Start, Profile, Numbered, Whole, Constants, Function, Clause as ClauseWord, Variables, Body}
 use Rattle.hp_read.specs.declared.stage.Progress.{Progress}
@@ -32,7 +32,7 @@ use Rattle.hp_read.specs.Problems as grammar
 use Rattle.hp_read.specs.Machine.{◌and_then◌, runs, at_word, number_goes, factor_goes, end_goes}
 use Rattle.hp_read.specs.BodyMachine.{begun, body_step, body_end, body_word, head_goes, other_goes}
 use Rattle.hp_read.specs.Stages.{sort_of, constants_step, constants_end, function_step, function_end, variables_step, variables_end}
-use Rattle.hp_read.specs.Top.{at, started, with_declarations, with_item, ends_with, between, item_goes, stage_step, top_step, stage_end, top_end}
+use Rattle.hp_read.specs.Top.{at, started, with_declarations, with_item, ends_with, between, item_goes, at_start, at_profile, at_whole, at_numbered, at_clause, constants_stage, function_stage, variables_stage, body_stage, stage_step, top_step, stage_end, top_end}
 use Rattle.hp_read.proofs.Machines.{bound, runs_on, result_of, are_both, Reads}
 use Rattle.hp_read.proofs.BodyFinish.{SpellsPair, bodies_read}
 use Rattle.hp_read.proofs.DeclaredOnly.{constants_read, function_read, variables_read}
@@ -91,21 +91,21 @@ goes_with true x y n g e = absurd (cc)
 goes_with false x y n g e = e
 
 constants_layer : (p : Problem) → Layer constants_step constants_end (λ a. at p (Constants a)) kinds.Semicolon (with_declarations p)
-unfolding same
+unfolding same constants_stage
 constants_layer p = record {
     goes = λ s n t e. goes_with (ends_with kinds.Semicolon t) _ _ _ (goes_inside constants_step kinds.Semicolon s n t (constants_close s) e) (ap (λ o. o and_then λ d. Some (at p (Constants d))) e);
     ends = λ s r e. ap (λ o. o and_then λ ds. Some (with_declarations p ds)) e;
   }
 
 function_layer : (p : Problem) → Layer function_step function_end (λ a. at p (Function a)) kinds.Semicolon (λ d. with_declarations p (d ∷ []))
-unfolding same
+unfolding same function_stage
 function_layer p = record {
     goes = λ s n t e. goes_with (ends_with kinds.Semicolon t) _ _ _ (goes_inside function_step kinds.Semicolon s n t (function_closes s) e) (ap (λ o. o and_then λ d. Some (at p (Function d))) e);
     ends = λ s r e. ap (λ o. o and_then λ d. Some (with_declarations p (d ∷ []))) e;
   }
 
 variables_layer : (p : Problem) → Layer variables_step variables_end (λ a. at p (Variables a)) kinds.CloseSquare (λ vs. at p (Body false vs (begun First)))
-unfolding same
+unfolding same variables_stage
 variables_layer p = record {
     goes = λ s n t e. goes_with (ends_with kinds.CloseSquare t) _ _ _ (goes_inside variables_step kinds.CloseSquare s n t (variables_close s) e) (ap (λ o. o and_then λ d. Some (at p (Variables d))) e);
     ends = λ s r e. ap (λ o. o and_then λ vs. Some (at p (Body false vs (begun First)))) e;
@@ -115,7 +115,7 @@ abbrev pub item_of : Problem → Bool → List Var → List Atom × List Atom �
 item_of p q vs r = with_item p (clause_of q vs r.0 r.1)
 
 body_layer : (p : Problem) (q : Bool) (vs : List Var) → Layer body_step body_end (λ b. at p (Body q vs b)) kinds.Semicolon (item_of p q vs)
-unfolding same
+unfolding same body_stage
 body_layer p q vs = record {
     goes = λ s n t e. goes_with (ends_with kinds.Semicolon t) _ _ _ (goes_inside body_step kinds.Semicolon s n t (body_closes s) e) (ap (λ o. o and_then λ d. Some (at p (Body q vs d))) e);
     ends = λ s r e. ap (λ o. o and_then λ k. Some (item_of p q vs k)) e;
@@ -127,6 +127,7 @@ pub record Opens (s : Stage) : Type 0 where
   pub ends : (p : Problem) → stage_end p s ≡ Some p
 
 whole_opens : Opens Whole
+unfolding at_whole
 whole_opens = record { goes = λ p k e. refl; ends = λ p. refl }
 
 otherwise : (b : Bool) (x y : Option Progress) → b ≡ false → (if b then x else y) ≡ y
@@ -134,6 +135,7 @@ otherwise true x y e = absurd (cc)
 otherwise false x y e = refl
 
 start_opens : Opens Start
+unfolding at_start
 start_opens = record { goes = λ p k e. otherwise (same k kinds.Profile) (Some (at p Profile)) (between p k) e; ends = λ p. refl }
 
 -- the first word of a declaration or an item, and what follows
@@ -152,7 +154,7 @@ declaration_goes s n ds es u o (function w d h) =
       ∙ layer_read function_step function_end _ kinds.Semicolon _ (function_layer (problem_of n ds [])) w [] f.Name d (function_read.only w d h)
 
 item_goes_on : (s : Stage) (p : Problem) (d : Clause) (u : List Token) → Opens s → SpellsItem u d → runs top_step (at p s) u ≡ Some (with_item p d)
-unfolding same between item_goes
+unfolding same between item_goes at_clause
 item_goes_on s p d u o (clause w z vs g h k b) =
     let rest : List Token = z ++ word kinds.Semicolon ∷ [] in
     opened s p kinds.Clause (word kinds.OpenSquare ∷ w ++ (word kinds.CloseSquare ∷ rest)) o refl
@@ -169,7 +171,7 @@ pub record Reaches (from : Progress) (u : List Token) (p : Problem) : Type 0 whe
   pub goes : runs top_step from u ≡ Some (at p stage)
 
 profile_reached : (u : List Token) (n : ℕ) → SpellsProfile u n → Reaches started u (problem_of n [] [])
-unfolding same
+unfolding same at_start at_profile at_numbered
 profile_reached u n missing = record { stage = Start; opens = start_opens; goes = refl }
 profile_reached u n given = record { stage = Whole; opens = whole_opens; goes = refl }
 
@@ -229,7 +231,7 @@ one_before s n t h e k = record { tokens = t ∷ k.tokens; problem = k.problem; 
     result = ap (λ o. (o and_then λ m. runs top_step m k.tokens) and_then top_end) e ∙ k.result }
 
 stage_ends : (p : Problem) (s : Stage) → Ends (at p s)
-unfolding same
+unfolding same at_profile at_numbered at_clause
 stage_ends p Start = record { tokens = []; problem = p; real = tt; result = refl }
 stage_ends p Profile = record { tokens = numeral 1 ∷ word kinds.Semicolon ∷ []; problem = p; real = (refl, (refl, tt)); result = refl }
 stage_ends p Numbered = record { tokens = word kinds.Semicolon ∷ []; problem = p; real = (refl, tt); result = refl }

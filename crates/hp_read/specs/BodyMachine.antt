@@ -17,7 +17,7 @@ use Rattle.hp_read.specs.declared.body.Body.{Body}
 use Rattle.hp_read.specs.declared.body.Body.TheVariants.{Reading, Closed}
 use Rattle.hp_read.specs.Token.{Token, word, name, numeral, same}
 use Rattle.hp_read.specs.Bodies.{relation, atom_of}
-use Rattle.hp_read.specs.Machine.{◌and_then◌, State, step, ended, runs}
+use Rattle.hp_read.specs.Machine.{◌and_then◌, State, step, ended, is_fresh, runs}
 
 -- a body begins, or its head behind a guard
 abbrev pub begun : Place → Body
@@ -60,9 +60,14 @@ abbrev pub at_relation : Side → Mode → List Frame → Cmp → Option (Side �
 at_relation Left m fs c = outermost m fs and_then λ a. Some (Right a c, (Part Nothing, []))
 at_relation (Right a d) m fs c = None
 
+-- `false` with this guard, where no token of an atom is read
+abbrev pub fresh : Side → Mode → List Frame → List Atom → Option Body
+fresh Left m [] g = if is_fresh m then Some (Closed g) else None
+fresh d m fs g = None
+
 abbrev pub at_false : Place → Side → Mode → List Frame → Option Body
-at_false First Left (Part Nothing) [] = Some (Closed [])
-at_false (Bare g) Left (Part Nothing) [] = Some (Closed g)
+at_false First d m fs = fresh d m fs []
+at_false (Bare g) d m fs = fresh d m fs g
 at_false p d m fs = None
 
 abbrev pub in_term : Place → Side → Option State → Option Body

@@ -11,4 +11,6 @@ pub mod Declarations
 pub mod Problems
 pub mod Stages
 pub mod Top
+pub mod Symbols
+pub mod Causes
 pub mod Spells

@@ -1,5 +1,5 @@
 -- Reading a term, token by token.
-use Rattle.std.specs.Prelude.{ℕ, zero, suc, if◌then◌else◌, List, [], ◌∷◌, ◌++◌, pos, Option, Some, None}
+use Rattle.std.specs.Prelude.{ℕ, zero, suc, Bool, true, false, if◌then◌else◌, List, [], ◌∷◌, ◌++◌, pos, Option, Some, None}
 use Rattle.hp_math.specs.Rational.{ℚ, ratio}
 use Rattle.hp_ast.specs.declared.term.Term.{Term}
 use Rattle.hp_text.specs.declared.token.Kind.{Kind}
@@ -41,9 +41,13 @@ ended (Done f s t) = Some (joined f (scaled s t))
 abbrev pub State : Type 0
 State = Mode × List Frame
 
+-- no token of the term is read
+abbrev pub is_fresh : Mode → Bool
+is_fresh (Part Nothing) = true
+is_fresh m = false
+
 abbrev pub at_minus : Mode → Option Mode
-at_minus (Part Nothing) = Some (Part Negative)
-at_minus m = ended m and_then λ t. Some (Part (Difference t))
+at_minus m = if is_fresh m then Some (Part Negative) else (ended m and_then λ t. Some (Part (Difference t)))
 
 abbrev pub at_star : Mode → Option Mode
 at_star (Whole f n) = Some (Times f (ratio (pos n) 1))

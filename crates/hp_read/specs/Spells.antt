@@ -1,37 +1,20 @@
 -- What bytes spell, and what the fault of bytes is that spell nothing.
 use Rattle.std.specs.Prelude.{ℕ, List, [], ◌∷◌, ◌++◌, ◌≡◌, ◌≢◌, ◌⊎◌, map, length, Result, Ok, Err, Option, Some, None}
 use Rattle.hp_ast.specs.declared.problem.Problem.{Problem}
-use Rattle.hp_text.specs.declared.token.Kind.{Kind}
-use Rattle.hp_text.specs.declared.token.Kind.TheVariants as kinds
 use Rattle.hp_text.specs.declared.token.Token.{Token as Placed}
-use Rattle.hp_text.specs.declared.token.TokenErr.{TokenErr}
 use Rattle.hp_text.specs.declared.token.TokenErr.TheVariants as faults
-use Rattle.hp_text.specs.Numeral.{numeral_value}
-use Rattle.hp_text.specs.Placed.{text_of}
 use Rattle.hp_text.specs.Tokens.{next_from}
 use Rattle.hp_text.specs.Lexes.{Passes, Lexes}
 use Rattle.hp_read.specs.declared.fault.ReadErr.{ReadErr}
 use Rattle.hp_read.specs.declared.fault.ReadErr.TheVariants.{Syntax, LongNumeral, Deep, Memory}
 use Rattle.hp_read.specs.declared.counts.Counts.{Counts}
 use Rattle.hp_read.specs.declared.stage.Progress.{Progress}
-use Rattle.hp_read.specs.Token.{Token, word, name, numeral}
+use Rattle.hp_read.specs.Symbols.{symbol_of, symbols}
 use Rattle.hp_read.specs.Machine.{runs}
 use Rattle.hp_read.specs.Counts.{counted}
 use Rattle.hp_read.specs.Faults.{Begins, IsWithin, IsRefused, IsTooDeep, IsEarlyEnd}
 use Rattle.hp_read.specs.Problems.{SpellsProblem}
 use Rattle.hp_read.specs.Top.{started, top_step}
-
--- what a token says, by its kind and its bytes
-abbrev pub symbol_by : Kind → List ℕ → Token
-symbol_by kinds.Name text = name text
-symbol_by kinds.Numeral text = numeral (numeral_value text)
-symbol_by kind text = word kind
-
-unfoldable pub symbol_of : List ℕ → Placed → Token
-symbol_of bytes t = symbol_by t.kind (text_of bytes t)
-
-abbrev pub symbols : List ℕ → List Placed → List Token
-symbols bytes ts = map (symbol_of bytes) ts
 
 -- the bytes are the tokens of a problem, with blanks and comments between them, within the limits
 pub record Spells (bytes : List ℕ) (p : Problem) : Type 0 where
@@ -83,10 +66,6 @@ IsFault bytes (Syntax o) = IsMisplaced bytes o ⊎ (IsNoToken bytes (Syntax o) �
 IsFault bytes (LongNumeral o) = IsNoToken bytes (LongNumeral o)
 IsFault bytes (Deep o) = IsPastLimit bytes o
 IsFault bytes Memory = Unit {0}
-
-abbrev pub fault_of : TokenErr → ReadErr
-fault_of (faults.Stray o) = Syntax o
-fault_of (faults.LongNumeral o) = LongNumeral o
 
 -- what the reader has come to behind some tokens of the bytes
 pub record IsReading (bytes : List ℕ) (place : ℕ) (progress : Progress) (counts : Counts) : Type 0 where

@@ -7,12 +7,12 @@ use Rattle.hp_ast.specs.declared.problem.Sort.TheVariants as sorts
 use Rattle.hp_ast.specs.declared.problem.Var.{Var}
 use Rattle.hp_text.specs.declared.token.Kind.{Kind}
 use Rattle.hp_text.specs.declared.token.Kind.TheVariants as kinds
-use Rattle.hp_read.specs.declared.stage.Constants.{Constants}
-use Rattle.hp_read.specs.declared.stage.Constants.TheVariants as constants
-use Rattle.hp_read.specs.declared.stage.Function.{Function}
-use Rattle.hp_read.specs.declared.stage.Function.TheVariants as function
-use Rattle.hp_read.specs.declared.stage.Variables.{Variables}
-use Rattle.hp_read.specs.declared.stage.Variables.TheVariants as variables
+use Rattle.hp_read.specs.declared.lines.Constants.{Constants}
+use Rattle.hp_read.specs.declared.lines.Constants.TheVariants as constants
+use Rattle.hp_read.specs.declared.lines.Function.{Function}
+use Rattle.hp_read.specs.declared.lines.Function.TheVariants as function
+use Rattle.hp_read.specs.declared.lines.Variables.{Variables}
+use Rattle.hp_read.specs.declared.lines.Variables.TheVariants as variables
 use Rattle.hp_read.specs.Token.{Token, word, name, numeral, same}
 use Rattle.hp_read.specs.Declarations.{constants_of, variable_of}
 use Rattle.hp_read.specs.Machine.{◌and_then◌}

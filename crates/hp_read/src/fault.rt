@@ -1,5 +1,11 @@
 //! Why bytes spell no problem.
 
+ghost use Rattle.std.specs.Prelude.{◌≡◌};
+ghost use Rattle.hp_read.specs.Causes.{fault_of};
+ghost use Rattle.hp_read.specs.declared.fault.ReadErr.TheVariants.{Memory as memory};
+
+use hp_text::TokenErr;
+use std::alloc::AllocError;
 use thiserror::Error;
 
 /// Why a text isn't read. An `offset` counts bytes from 0, and the fault is the first one of the text.
@@ -18,4 +24,23 @@ pub enum ReadErr {
     /// Memory is short.
     #[error("out of memory")]
     Memory,
+}
+
+impl From<AllocError> for ReadErr {
+    ghost from_gives = { λ _ e. e ≡ memory };
+
+    fn from(_e: AllocError) -> ReadErr {
+        ReadErr::Memory
+    }
+}
+
+impl From<TokenErr> for ReadErr {
+    ghost from_gives = { λ fault e. e ≡ fault_of fault };
+
+    fn from(fault: TokenErr) -> ReadErr {
+        match fault {
+            TokenErr::Stray { offset } => ReadErr::Syntax { offset },
+            TokenErr::LongNumeral { offset } => ReadErr::LongNumeral { offset },
+        }
+    }
 }

@@ -1,21 +1,14 @@
 -- What a table of reserved words or signs gives.
-use Rattle.std.proofs.Common.{◌≡◌, ◌≢◌, ℕ, ◌+◌, ◌<◌, ◌≤◌, Bool, true, false, not, ◌&&◌, ◌||◌, List, [], ◌∷◌, ◌++◌, length, take, drop, nat_lt, nat_eq, Option, Some, None, refl, sym, ap, ◌∙◌, arith, length-append, ◌⊎◌, inl, inr}
+use Rattle.std.proofs.Common.{◌≡◌, ◌≢◌, ℕ, ◌<◌, ◌≤◌, Bool, true, false, ◌&&◌, List, [], ◌∷◌, length, drop, nat_lt, nat_eq, Option, Some, refl, ap, arith, length-append}
 use Rattle.std.specs.Prelude.{if◌then◌else◌}
 use Rattle.std.specs.List.{list_all, list_any, starts_with}
 use lib.Pointwise.{pointwise}
 use Rattle.std.proofs.lemmas.Slice.Eq.{starts_is}
 use Rattle.std.proofs.lemmas.Bool.Decides.{Decides-eqb}
-use Rattle.hp_text.specs.Words.{Fixed, fixed, reserved_words, signs, kind_among, word_kind, first_among, sign_of, is_reserved}
+use Rattle.hp_text.specs.Words.{Fixed, is_fixed, reserved_words, signs, kind_among, first_among}
 use Rattle.hp_text.specs.declared.token.Kind.{Kind}
 use Rattle.hp_text.specs.declared.token.Kind.TheVariants as kinds
 use Rattle.hp_text.proofs.Runs.{both_true}
-
--- a reserved word or a sign
-abbrev pub is_fixed : Kind → Bool
-is_fixed kinds.Name = false
-is_fixed kinds.Numeral = false
-is_fixed kinds.End = false
-is_fixed k = true
 
 pub fixed_no_name : (k : Kind) → is_fixed k ≡ true → k ≢ kinds.Name
 fixed_no_name k f e = let other = ap is_fixed e in cc

@@ -1,5 +1,5 @@
 -- What the next token of a text is like: its length, its place, and the form of numerals and names.
-use Rattle.std.proofs.Common.{◌≡◌, ◌≢◌, ℕ, ◌+◌, ◌-◌, ◌<◌, ◌≤◌, Bool, true, false, not, List, [], ◌∷◌, length, take, drop, nat_le, Option, Some, None, Result, Ok, Err, IfOk, IfErr, refl, sym, ap, subst, ◌∙◌, arith, length-drop}
+use Rattle.std.proofs.Common.{◌≡◌, ◌≢◌, ℕ, ◌+◌, ◌<◌, ◌≤◌, Bool, true, false, not, List, [], ◌∷◌, length, take, drop, nat_le, Option, Some, None, Result, Ok, Err, IfOk, IfErr, refl, sym, ap, subst, ◌∙◌, arith, length-drop}
 use Rattle.std.specs.Prelude.{if◌then◌else◌}
 use Rattle.std.specs.List.{prefix_len, list_all}
 use Rattle.std.proofs.Math.Numerals.{one-add}
@@ -8,14 +8,14 @@ use Rattle.std.proofs.lemmas.List.Sums.{prefix_len-le-length}
 use Rattle.hp_text.specs.Bytes.{is_digit, is_letter, is_name_byte}
 use Rattle.hp_text.specs.Numeral.{IsNumeral}
 use Rattle.hp_text.specs.Words.{reserved_words, signs, word_kind, sign_of, is_reserved, is_name, IsName}
-use Rattle.hp_text.specs.Tokens.{gap, token, numeral_of, sign_token, front, start_from, next_from}
+use Rattle.hp_text.specs.Tokens.{token, numeral_of, sign_token, front, start_from, next_from}
 use Rattle.hp_text.specs.Placed.{text_of, IsPlaced, IsFaultPlaced, offset_of}
 use Rattle.hp_text.specs.declared.token.Kind.{Kind}
 use Rattle.hp_text.specs.declared.token.Kind.TheVariants as kinds
 use Rattle.hp_text.specs.declared.token.Token.{Token}
 use Rattle.hp_text.specs.declared.token.TokenErr.{TokenErr}
-use Rattle.hp_text.specs.declared.token.TokenErr.TheVariants.{Stray, LongNumeral}
-use Rattle.hp_text.proofs.Runs.{both, both_true, or_left, run_passes, run_begins, gap_within}
+use Rattle.hp_text.specs.declared.token.TokenErr.TheVariants.{LongNumeral}
+use Rattle.hp_text.proofs.Runs.{both, or_left, run_passes, run_begins, gap_within}
 use Rattle.hp_text.proofs.Fixeds.{words_table, signs_table, word_is, first_is, fixed_no_name, fixed_no_numeral, fixed_no_end}
 
 -- a token at the front of bytes
@@ -132,7 +132,7 @@ placed_at bytes place start t p s f =
       name = λ k. ap is_name cut ∙ f.name k;
     }
 
-start_within : (bytes : List ℕ) (place : ℕ) → place ≤ length bytes → start_from bytes place ≤ length bytes
+pub start_within : (bytes : List ℕ) (place : ℕ) → place ≤ length bytes → start_from bytes place ≤ length bytes
 start_within bytes place h = omega (arith, gap_within (drop place bytes), length-drop place bytes)
 
 -- the next token stands in the text, at the place or behind it

@@ -1,9 +1,9 @@
 -- The tokens of a whole text: there is one list of them.
-use Rattle.std.proofs.Common.{◌≡◌, ◌≢◌, ℕ, zero, suc, ◌+◌, ◌-◌, ◌<◌, ◌≤◌, Bool, true, false, List, [], ◌∷◌, ◌++◌, length, Result, Ok, Err, IfOk, refl, sym, ap, subst, ◌∙◌, arith}
+use Rattle.std.proofs.Common.{◌≡◌, ◌≢◌, ℕ, zero, suc, ◌+◌, ◌<◌, ◌≤◌, Bool, true, false, List, [], ◌∷◌, ◌++◌, length, Result, Ok, Err, refl, sym, ap, subst, ◌∙◌, arith}
 use Rattle.hp_text.specs.Numeral.{numeral_value}
 use Rattle.hp_text.specs.Tokens.{next_from}
 use Rattle.hp_text.specs.Placed.{text_of, IsPlaced}
-use Rattle.hp_text.specs.Lexes.{Passes, IsLast, Lexes, HasOneLexing, Said, word, name, numeral, said}
+use Rattle.hp_text.specs.Lexes.{Passes, IsLast, HasOneLexing, name, numeral, said}
 use Rattle.hp_text.specs.declared.token.Kind.{Kind}
 use Rattle.hp_text.specs.declared.token.Kind.TheVariants as kinds
 use Rattle.hp_text.specs.declared.token.Token.{Token}

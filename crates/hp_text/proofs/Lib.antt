@@ -3,3 +3,7 @@ pub mod Runs
 pub mod Fixeds
 pub mod Fronts
 pub mod Lexing
+pub mod LongestSigns
+pub mod LongestTokens
+pub mod Pieces
+pub mod Saying

@@ -1,5 +1,5 @@
 -- How large the value of a few digits can be.
-use Rattle.std.proofs.Common.{ℕ, ◌+◌, ◌*◌, ◌^◌, ◌<◌, ◌≤◌, arith, lit<}
+use Rattle.std.proofs.Common.{ℕ, ◌+◌, ◌*◌, ◌^◌, ◌<◌, ◌≤◌, arith}
 use Rattle.std.proofs.Math.Nat.{pow-le-pow_right}
 
 pub one_digit_more : (value place : ℕ) → value < 10 ^ place → place < 18 → 10 * value + 256 < 2 ^ 64

@@ -1,6 +1,7 @@
 -- The tokens of a whole text, in order, and what stands behind the last of them.
-use Rattle.std.specs.Prelude.{◌≡◌, ◌≢◌, ℕ, List, [], ◌∷◌, map, Result, Ok, Err}
+use Rattle.std.specs.Prelude.{◌≡◌, ◌≢◌, true, ℕ, ◌<◌, ◌^◌, List, [], ◌∷◌, map, Result, Ok, Err}
 use Rattle.hp_text.specs.Numeral.{numeral_value}
+use Rattle.hp_text.specs.Words.{IsName, is_fixed}
 use Rattle.hp_text.specs.Tokens.{next_from}
 use Rattle.hp_text.specs.Placed.{text_of}
 use Rattle.hp_text.specs.declared.token.Kind.{Kind}
@@ -36,7 +37,7 @@ pub data Said : Type 0 where
   name : List ℕ → Said
   numeral : ℕ → Said
 
-abbrev said_by : Kind → List ℕ → Said
+abbrev pub said_by : Kind → List ℕ → Said
 said_by kinds.Name text = name text
 said_by kinds.Numeral text = numeral (numeral_value text)
 said_by kind text = word kind
@@ -47,3 +48,13 @@ said bytes t = said_by t.kind (text_of bytes t)
 -- what the tokens of a text say, in order
 abbrev pub all_said : List ℕ → List Token → List Said
 all_said bytes tokens = map (said bytes) tokens
+
+-- what a token of a text can say: a reserved word or a sign, a name, or a number of at most 18 digits
+abbrev pub IsSaid : Said → Type 0
+IsSaid (word kind) = is_fixed kind ≡ true
+IsSaid (name text) = IsName text
+IsSaid (numeral n) = n < 10 ^ 18
+
+abbrev pub AreSaid : List Said → Type 0
+AreSaid [] = Unit {0}
+AreSaid (s ∷ ss) = IsSaid s × AreSaid ss

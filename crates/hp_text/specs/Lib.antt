@@ -5,3 +5,4 @@ pub mod Tokens
 pub mod Reading
 pub mod Placed
 pub mod Lexes
+pub mod Longest

@@ -1,10 +1,17 @@
 -- The texts that are always the same token, reserved words and signs, and the names.
-use Rattle.std.specs.Prelude.{◌≡◌, Bool, true, false, not, ◌&&◌, ℕ, nat_eq, if◌then◌else◌, List, [], ◌∷◌, length, codes, Option, Some, None}
+use Rattle.std.specs.Prelude.{◌≡◌, Bool, true, false, not, ◌&&◌, ℕ, nat_eq, if◌then◌else◌, List, [], ◌∷◌, ◌++◌, length, codes, Option, Some, None}
 use Rattle.std.specs.List.{starts_with, list_all, list_any}
 use lib.Pointwise.{pointwise}
 use Rattle.hp_text.specs.Bytes.{is_letter, is_name_byte}
 use Rattle.hp_text.specs.declared.token.Kind.{Kind}
 use Rattle.hp_text.specs.declared.token.Kind.TheVariants as kinds
+
+-- the kind of a reserved word or a sign
+abbrev pub is_fixed : Kind → Bool
+is_fixed kinds.Name = false
+is_fixed kinds.Numeral = false
+is_fixed kinds.End = false
+is_fixed k = true
 
 -- a text that is always the same token
 pub record Fixed : Type 0 where
@@ -21,16 +28,22 @@ reserved_words =
     ∷ fixed (codes "num") kinds.Num ∷ fixed (codes "idx") kinds.Idx ∷ fixed (codes "ptr") kinds.Ptr
     ∷ fixed (codes "null") kinds.Null ∷ fixed (codes "false") kinds.False ∷ []
 
--- a sign of two bytes stands before the sign that is its first byte
-abbrev pub signs : List Fixed
-signs =
-    fixed (codes "<=") kinds.LessEq ∷ fixed (codes "<") kinds.Less ∷ fixed (codes "=") kinds.Equal
-    ∷ fixed (codes "!=") kinds.NotEqual ∷ fixed (codes ">=") kinds.GreaterEq ∷ fixed (codes ">") kinds.Greater
-    ∷ fixed (codes "->") kinds.Arrow ∷ fixed (codes "&") kinds.And ∷ fixed (codes "|") kinds.Or
+abbrev pub long_signs : List Fixed
+long_signs =
+    fixed (codes "<=") kinds.LessEq ∷ fixed (codes "!=") kinds.NotEqual ∷ fixed (codes ">=") kinds.GreaterEq ∷ fixed (codes "->") kinds.Arrow ∷ []
+
+abbrev pub short_signs : List Fixed
+short_signs =
+    fixed (codes "<") kinds.Less ∷ fixed (codes "=") kinds.Equal ∷ fixed (codes ">") kinds.Greater
+    ∷ fixed (codes "&") kinds.And ∷ fixed (codes "|") kinds.Or
     ∷ fixed (codes "(") kinds.OpenRound ∷ fixed (codes ")") kinds.CloseRound
     ∷ fixed (codes "[") kinds.OpenSquare ∷ fixed (codes "]") kinds.CloseSquare
     ∷ fixed (codes ",") kinds.Comma ∷ fixed (codes ":") kinds.Colon ∷ fixed (codes ";") kinds.Semicolon
     ∷ fixed (codes "+") kinds.Plus ∷ fixed (codes "-") kinds.Minus ∷ fixed (codes "*") kinds.Star ∷ fixed (codes "/") kinds.Slash ∷ []
+
+-- a sign of two bytes stands before the sign that is its first byte
+abbrev pub signs : List Fixed
+signs = long_signs ++ short_signs
 
 -- the kind of the word among these texts, and a name where it is none of them
 abbrev pub kind_among : List Fixed → List ℕ → Kind

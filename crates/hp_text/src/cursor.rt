@@ -32,6 +32,7 @@ impl<'a> Cursor<'a> {
     ghost use Rattle.std.specs.Prelude.{◌≡◌, IfOk, IfErr, OnErr};
     ghost use Rattle.hp_text.specs.Tokens.{next_from};
     ghost use Rattle.hp_text.specs.Placed.{IsPlaced, IsFaultPlaced};
+    ghost use Rattle.hp_text.specs.Longest.{StandsLongest};
 
     /// A cursor at the beginning of a text.
     pub fn new(bytes: &'a [u8]) -> Cursor<'a>
@@ -53,6 +54,7 @@ impl<'a> Cursor<'a> {
         ensures unchanged { OnErr result (self.new ≡ self.old) }
         ensures placed { IfOk result (IsPlaced self.old.bytes self.old.place) }
         ensures fault { IfErr result (IsFaultPlaced self.old.bytes self.old.place) }
+        ensures longest { StandsLongest self.old.bytes result }
     {
         let token = token_from(self.bytes, self.at)?;
         self.at = token.end;

@@ -1,7 +1,7 @@
 //! The reserved words and the signs.
 
 ghost use Rattle.std.specs.Prelude.{◌≡◌, ◌≤◌, length, IfSome};
-ghost use Rattle.hp_text.specs.Words.{word_kind, sign_of};
+ghost use Rattle.hp_text.specs.Words.{word_kind, sign_of, first_among, short_signs};
 
 use crate::token::Kind;
 
@@ -43,18 +43,28 @@ pub(crate) fn sign_at(bytes: &[u8]) -> Option<(Kind, usize)>
 {
     if bytes.starts_with(b"<=") {
         Some((Kind::LessEq, 2))
-    } else if bytes.starts_with(b"<") {
-        Some((Kind::Less, 1))
-    } else if bytes.starts_with(b"=") {
-        Some((Kind::Equal, 1))
     } else if bytes.starts_with(b"!=") {
         Some((Kind::NotEqual, 2))
     } else if bytes.starts_with(b">=") {
         Some((Kind::GreaterEq, 2))
-    } else if bytes.starts_with(b">") {
-        Some((Kind::Greater, 1))
     } else if bytes.starts_with(b"->") {
         Some((Kind::Arrow, 2))
+    } else {
+        short_sign_at(bytes)
+    }
+}
+
+/// The kind and the length of the sign of one byte at the front.
+fn short_sign_at(bytes: &[u8]) -> Option<(Kind, usize)>
+    ensures sign { result ≡ first_among short_signs bytes.now }
+    ensures within { IfSome result (λ s. s.1 ≤ length bytes.now) }
+{
+    if bytes.starts_with(b"<") {
+        Some((Kind::Less, 1))
+    } else if bytes.starts_with(b"=") {
+        Some((Kind::Equal, 1))
+    } else if bytes.starts_with(b">") {
+        Some((Kind::Greater, 1))
     } else if bytes.starts_with(b"&") {
         Some((Kind::And, 1))
     } else if bytes.starts_with(b"|") {
