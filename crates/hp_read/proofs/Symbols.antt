@@ -1,5 +1,12 @@
 -- What a token says, by its kind, and how large the value of a numeral is.
-use Rattle.std.proofs.Common.{◌≡◌, ℕ, ◌^◌, ◌<◌, ◌≤◌, Bool, true, false, List, length, refl, arith, lit<}
+use Rattle.std.proofs.Common.{◌≡◌, ℕ, ◌^◌, ◌<◌, ◌≤◌, Bool, true, false, List, length, refl, sym, ap, subst, ◌∙◌, arith, lit<}
+use Rattle.std.specs.Prelude.{ℤ, pos}
+use Rattle.std.proofs.lemmas.Int.{to_z_pos}
+use mir.Val.{to_z, of_z, Fits}
+use mir.Syntax.{w64, w128}
+use lib.IntN.{nat_abs}
+use lib.Signed.{non_neg}
+use lib.Dec.{T}
 use Rattle.std.proofs.Math.Nat.{pow-le-pow_right}
 use Rattle.hp_text.specs.declared.token.Kind.{Kind}
 use Rattle.hp_text.specs.declared.token.Kind.TheVariants as kinds
@@ -38,3 +45,18 @@ numeral_fits text n =
     let most : 10 ^ length text ≤ 10 ^ 18 = pow-le-pow_right {n = 10} (omega arith) {i = length text} {j = 18} n.most in
     let fits : 10 ^ 18 < 2 ^ 64 = lit< tt in
     omega arith
+
+-- a whole number of 128 bits that is not below 0, as one of 64 bits
+kept : (z : ℤ) (n : ℕ) → z ≡ pos n → n < 2 ^ 64 → to_z w128 (of_z w128 z) ≡ pos n
+kept z n e h =
+    let most : 2 ^ 64 < 2 ^ 127 = lit< tt in
+    let small : n < 2 ^ 127 = omega arith in
+    ap (λ x. to_z w128 (of_z w128 x)) e ∙ to_z_pos w128 n small
+
+pub cast_fits : (z : ℤ) (n : ℕ) → z ≡ pos n → n < 2 ^ 64 → T (non_neg (to_z w128 (of_z w128 z))) × Fits w64 (nat_abs (to_z w128 (of_z w128 z)))
+cast_fits z n e h =
+    let fits : Fits w64 n = omega arith in
+    subst (λ x. T (non_neg x) × Fits w64 (nat_abs x)) (sym (kept z n e h)) (tt, fits)
+
+pub cast_is : (z : ℤ) (n : ℕ) → z ≡ pos n → n < 2 ^ 64 → nat_abs (to_z w128 (of_z w128 z)) ≡ n
+cast_is z n e h = ap nat_abs (kept z n e h)
