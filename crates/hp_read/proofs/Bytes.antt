@@ -1,5 +1,6 @@
 -- What the reader has come to says what the bytes spell, or what their fault is.
-use Rattle.std.proofs.Common.{◌≡◌, ◌≢◌, ℕ, Bool, true, false, List, [], ◌∷◌, ◌++◌, length, map, Option, Some, None, Result, Ok, Err, refl, sym, ap, subst, ◌∙◌, append_assoc, append-nil, ◌⊎◌, inl, inr}
+use Rattle.std.proofs.Common.{◌≡◌, ◌≢◌, ℕ, Bool, true, false, List, [], ◌∷◌, ◌++◌, length, map, Option, Some, None, Result, Ok, Err, IfErr, refl, sym, ap, subst, ◌∙◌, append_assoc, append-nil, ◌⊎◌, inl, inr}
+use Rattle.std.specs.Result.{IsErrAnd}
 use Rattle.hp_ast.specs.declared.problem.Problem.{Problem}
 use Rattle.hp_text.specs.declared.token.Kind.TheVariants as kinds
 use Rattle.hp_text.specs.declared.token.Token.{Token as Placed}
@@ -74,6 +75,14 @@ no_token bytes place s c (faults.LongNumeral o) h e = record {
     before = h.tokens; place = place; passes = h.passes; next = inr (o, refl, e); within = (c, h.within);
     begins = begins top_step top_end started SpellsProblem problems_read (symbols bytes h.tokens) s h.goes;
   }
+
+-- the same, where the place and the cause are known by equations
+pub no_token_here : (bytes seen : List ℕ) (place at : ℕ) (s : Progress) (c : Counts) (e : TokenErr) (r : Result Problem ReadErr) → IsReading bytes place s c
+    → seen ≡ bytes → at ≡ place → ◌≡◌ {A = Result Placed TokenErr} (Err e) (next_from seen at) → IsErrAnd r (λ f. f ≡ fault_of e) → IfErr r (IsFault bytes)
+no_token_here bytes seen place at s c e (Ok p) h i j k l = tt
+no_token_here bytes seen place at s c e (Err f) h i j k l =
+    let next : next_from bytes place ≡ Err e = sym (k ∙ (ap (λ z. next_from z at) i ∙ ap (next_from bytes) j)) in
+    subst (IsFault bytes) (sym l) (no_token bytes place s c e h next)
 
 at_end : (bytes : List ℕ) (place : ℕ) (s : Progress) (c : Counts) (t : Placed) → (h : IsReading bytes place s c) → next_from bytes place ≡ Ok t → t.kind ≡ kinds.End
     → Lexes bytes h.tokens (Ok t)
