@@ -33,8 +33,13 @@ pub record Ending (b : Body) : Type 0 where
 
 -- tokens in front of what has an ending
 led : (b c : Body) (u : List Token) → AreTokens u → runs body_step b u ≡ Some c → Ending c → Ending b
-led b c u h e k = record { tokens = u ++ k.tokens; real = are_both u k.tokens h k.real; guard = k.guard; head = k.head;
-    result = ap (λ o. o and_then body_end) (runs_on body_step u k.tokens b c e) ∙ k.result }
+led b c u h e k = record {
+  tokens = u ++ k.tokens;
+  real = are_both u k.tokens h k.real;
+  guard = k.guard;
+  head = k.head;
+  result = ap (λ o. o and_then body_end) (runs_on body_step u k.tokens b c e) ∙ k.result;
+}
 
 place_ending : (p : Place) (d : Side) (m : Mode) (a : Atom) → atom_end d m [] ≡ Some a → Ending (Reading p d m [])
 unfolding same body_word head_goes false_goes and_goes arrow_goes or_goes other_goes
@@ -49,7 +54,7 @@ right_ending : (p : Place) (t : Term) (c : Cmp) (m : Mode) (fs : List Frame) →
 right_ending p t c m fs =
     let k = finishes m fs in
     led _ (Reading p (Right t c) k.last []) k.tokens k.real (run_in_body k.tokens p (Right t c) (m, fs) (k.last, []) k.goes)
-      (place_ending p (Right t c) k.last (atom_of t c k.term) (ap (λ o. o and_then λ b. Some (atom_of t c b)) k.ended))
+    (place_ending p (Right t c) k.last (atom_of t c k.term) (ap (λ o. o and_then λ b. Some (atom_of t c b)) k.ended))
 
 ending : (b : Body) → Ending b
 unfolding same relation body_word head_goes false_goes and_goes arrow_goes or_goes other_goes
@@ -58,16 +63,16 @@ ending (Reading p (Right t c) m fs) = right_ending p t c m fs
 ending (Reading p Left m fs) =
     let k = finishes m fs in
     led _ (Reading p Left k.last []) k.tokens k.real (run_in_body k.tokens p Left (m, fs) (k.last, []) k.goes)
-      (led _ (Reading p (Right k.term Eq) (Part Nothing) []) (word kinds.Equal ∷ []) (refl, tt)
-        (ap (λ o. o and_then λ b. Some b) (at_relation_word kinds.Equal Eq p k.last k.term refl k.ended))
-        (right_ending p k.term Eq (Part Nothing) []))
+    (led _ (Reading p (Right k.term Eq) (Part Nothing) []) (word kinds.Equal ∷ []) (refl, tt)
+    (ap (λ o. o and_then λ b. Some b) (at_relation_word kinds.Equal Eq p k.last k.term refl k.ended))
+    (right_ending p k.term Eq (Part Nothing) []))
 
 abbrev pub SpellsPair : List Token → List Atom × List Atom → Type 0
 SpellsPair u r = SpellsBody u r.0 r.1
 
 pub bodies_read : Reads body_step body_end (begun First) SpellsPair
 bodies_read = record {
-    found = λ u r e. let b = bound (runs body_step (begun First) u) body_end r e in body_is u b.0 r b.1 b.2;
-    only = λ u r h. body_read u r.0 r.1 h;
-    ends = λ b. let k = ending b in (k.tokens, (k.guard, k.head), k.real, k.result);
-  }
+  found = λ u r e. let b = bound (runs body_step (begun First) u) body_end r e in body_is u b.0 r b.1 b.2;
+  only = λ u r h. body_read u r.0 r.1 h;
+  ends = λ b. let k = ending b in (k.tokens, (k.guard, k.head), k.real, k.result);
+}

@@ -55,8 +55,15 @@ atom_is Left m fs u v a h g e = absurd (cc)
 atom_is (Right t c) m fs u v a h g e =
     let b = bound (outermost m fs) (λ b. Some (atom_of t c b)) a e in
     record {
-      left_tokens = h.0; right_tokens = v; left_term = t; right_term = b.0; sign = h.1; cmp_of = c;
-      left_is = h.2; rel_is = h.3; right_is = outermost_is m fs v b.0 g b.1;
+      left_tokens = h.0;
+      right_tokens = v;
+      left_term = t;
+      right_term = b.0;
+      sign = h.1;
+      cmp_of = c;
+      left_is = h.2;
+      rel_is = h.3;
+      right_is = outermost_is m fs v b.0 g b.1;
       tokens = ap (λ z. z ++ v) h.4 ∙ append_assoc h.0 (word h.1 ∷ []) v;
       atom = cc (b.2);
     }
@@ -88,7 +95,7 @@ or_is (Bare g) q u v a h k e = let same : Head g (a ∷ []) ≡ q = cc in
     subst (λ z. PlaceIs z ((u ++ v) and word kinds.Or)) same (u, v, h, one v a k, append_assoc u v _)
 or_is (Head g bs) q u v a h k e = let same : Head g (bs ++ a ∷ []) ≡ q = cc in
     subst (λ z. PlaceIs z ((u ++ v) and word kinds.Or)) same
-      (h.0, (h.1 and word kinds.Or) ++ v, h.2, one_more _ h.1 v bs a h.3 k, rw h.4 (simp append_assoc))
+    (h.0, (h.1 and word kinds.Or) ++ v, h.2, one_more _ h.1 v bs a h.3 k, rw h.4 (simp append_assoc))
 
 last_is : (p : Place) (u v : List Token) (a : Atom) (r : List Atom × List Atom) → PlaceIs p u → SpellsAtom v a → last p a ≡ Some r → SpellsBody (u ++ v) r.0 r.1
 last_is First u v a r h g e = let same : ([], a ∷ []) ≡ r = cc in
@@ -98,15 +105,19 @@ last_is (Bare gs) u v a r h g e = let same : (gs, a ∷ []) ≡ r = cc in
     subst (λ z. SpellsBody (u ++ v) z.0 z.1) same (body u v gs _ h (atoms v _ (one v a g)))
 last_is (Head gs bs) u v a r h g e = let same : (gs, bs ++ a ∷ []) ≡ r = cc in
     subst (λ z. SpellsBody (u ++ v) z.0 z.1) same
-      (rw (h.4, append_assoc) (body h.0 _ gs _ h.2 (atoms _ _ (one_more _ h.1 v bs a h.3 g))))
+    (rw (h.4, append_assoc) (body h.0 _ gs _ h.2 (atoms _ _ (one_more _ h.1 v bs a h.3 g))))
 
 -- a new atom begins behind what ends here
 begun_is : (q : Place) (u : List Token) → PlaceIs q u → BodyIs (begun q) u
 begun_is q u h = record {
-    place_tokens = u; side_tokens = []; term_tokens = []; place = h; side = refl;
-    term = record { outer = []; inner = []; frames = refl; mode = refl; split = refl };
-    split = sym (append-nil u);
-  }
+  place_tokens = u;
+  side_tokens = [];
+  term_tokens = [];
+  place = h;
+  side = refl;
+  term = record { outer = []; inner = []; frames = refl; mode = refl; split = refl };
+  split = sym (append-nil u);
+}
 
 place_is : (at : Place → Atom → Option Place) (k : Kind) (p : Place) (d : Side) (m : Mode) (fs : List Frame) (u : List Token) (c : Body) → ReadingIs p d m fs u
     → ((q : Place) (x y : List Token) (a : Atom) → PlaceIs p x → SpellsAtom y a → at p a ≡ Some q → PlaceIs q ((x ++ y) and word k))
@@ -116,7 +127,7 @@ place_is at k p d m fs u c h next e =
     let n = bound (at p b.0) (λ q. Some (begun q)) c b.2 in
     let same : begun n.0 ≡ c = cc (n.2) in
     subst (λ z. BodyIs z (u and word k)) same (begun_is n.0 _
-      (rw h.split (next n.0 h.place_tokens (h.side_tokens ++ h.term_tokens) b.0 h.place (atom_is d m fs _ _ b.0 h.side h.term b.1) n.1)))
+    (rw h.split (next n.0 h.place_tokens (h.side_tokens ++ h.term_tokens) b.0 h.place (atom_is d m fs _ _ b.0 h.side h.term b.1) n.1)))
 
 term_step_is : (p : Place) (d : Side) (m : Mode) (fs : List Frame) (u : List Token) (k : Token) (c : Body) → ReadingIs p d m fs u
     → in_term p d (step (m, fs) k) ≡ Some c → BodyIs c (u and k)
@@ -124,8 +135,11 @@ term_step_is p d m fs u k c h e =
     let b = bound (step (m, fs) k) (λ s. Some (Reading p d s.0 s.1)) c e in
     let same : Reading p d b.0.0 b.0.1 ≡ c = cc (b.2) in
     subst (λ z. BodyIs z (u and k)) same (record {
-      place_tokens = h.place_tokens; side_tokens = h.side_tokens; term_tokens = h.term_tokens and k;
-      place = h.place; side = h.side;
+      place_tokens = h.place_tokens;
+      side_tokens = h.side_tokens;
+      term_tokens = h.term_tokens and k;
+      place = h.place;
+      side = h.side;
       term = step_is (m, fs) b.0 k h.term_tokens h.term b.1;
       split = rw h.split (simp append_assoc);
     })
@@ -138,7 +152,9 @@ relation_is k r p Left m fs u c q h e =
     let first : (Right n.0 r, (Part Nothing, [])) ≡ b.0 = cc (n.2) in
     let second : Reading p b.0.0 b.0.1.0 b.0.1.1 ≡ c = cc (b.2) in
     subst (λ z. BodyIs z (u and word k)) (ap (λ e. Reading p e.0 e.1.0 e.1.1) first ∙ second) (record {
-      place_tokens = h.place_tokens; side_tokens = h.term_tokens and word k; term_tokens = [];
+      place_tokens = h.place_tokens;
+      side_tokens = h.term_tokens and word k;
+      term_tokens = [];
       place = h.place;
       side = (h.term_tokens, k, outermost_is m fs h.term_tokens n.0 h.term n.1, q, refl);
       term = record { outer = []; inner = []; frames = refl; mode = refl; split = refl };
@@ -149,10 +165,10 @@ relation_is k r p (Right a d) m fs u c q h e = absurd (cc)
 false_is : (p : Place) (d : Side) (m : Mode) (fs : List Frame) (u : List Token) (c : Body) → ReadingIs p d m fs u → at_false p d m fs ≡ Some c → BodyIs c (u and word kinds.False)
 false_is First Left (Part Nothing) [] u c h e = let same : Closed [] ≡ c = cc in
     subst (λ z. BodyIs z (u and word kinds.False)) same
-      ([], none, rw (h.split, h.place, h.side, h.term.split, h.term.frames, h.term.mode) refl)
+    ([], none, rw (h.split, h.place, h.side, h.term.split, h.term.frames, h.term.mode) refl)
 false_is (Bare g) Left (Part Nothing) [] u c h e = let same : Closed g ≡ c = cc in
     subst (λ z. BodyIs z (u and word kinds.False)) same
-      (h.place_tokens, h.place, rw (h.split, h.side, h.term.split, h.term.frames, h.term.mode) (simp (append_assoc, append-nil)))
+    (h.place_tokens, h.place, rw (h.split, h.side, h.term.split, h.term.frames, h.term.mode) (simp (append_assoc, append-nil)))
 false_is First Left m (f ∷ fs) u c h e = absurd (cc)
 false_is (Bare g) Left m (f ∷ fs) u c h e = absurd (cc)
 false_is p d m fs u c h e = absurd (cc)

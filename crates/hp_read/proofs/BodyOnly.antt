@@ -71,22 +71,22 @@ at_relation_word kinds.Or c p m a q e = absurd (cc)
 at_relation_word kinds.False c p m a q e = absurd (cc)
 at_relation_word k c p m a q e =
     ap (λ o. relation_or_term o k p Left m []) q
-      ∙ ap (λ (o : Option Term). right_of o c and_then λ (z : Side × State). Some (Reading p z.0 z.1.0 z.1.1)) e
+    ∙ ap (λ (o : Option Term). right_of o c and_then λ (z : Side × State). Some (Reading p z.0 z.1.0 z.1.1)) e
 
 atom_ends : (p : Place) (u : List Token) (a : Atom) → SpellsAtom u a → AtomEnds p u a
 atom_ends p u a h =
     let k = term_ends h.left_tokens h.left_term h.left_is [] in
     let l = term_ends h.right_tokens h.right_term h.right_is [] in
     let start : runs body_step (begun p) h.left_tokens ≡ Some (Reading p Left k.last []) =
-        run_in_body h.left_tokens p Left (Part Nothing, []) (k.last, []) k.goes in
+    run_in_body h.left_tokens p Left (Part Nothing, []) (k.last, []) k.goes in
     let end : runs body_step (Reading p (Right h.left_term h.cmp_of) (Part Nothing) []) h.right_tokens ≡ Some (Reading p (Right h.left_term h.cmp_of) l.last []) =
-        run_in_body h.right_tokens p (Right h.left_term h.cmp_of) (Part Nothing, []) (l.last, []) l.goes in
+    run_in_body h.right_tokens p (Right h.left_term h.cmp_of) (Part Nothing, []) (l.last, []) l.goes in
     record {
       side = Right h.left_term h.cmp_of;
       mode = l.last;
       goes = ap (runs body_step (begun p)) h.tokens
-        ∙ (runs_on body_step h.left_tokens (word h.sign ∷ h.right_tokens) (begun p) _ start
-        ∙ (ap (λ o. o and_then λ b. runs body_step b h.right_tokens) (at_relation_word h.sign h.cmp_of p k.last h.left_term h.rel_is k.ended) ∙ end));
+          ∙ (runs_on body_step h.left_tokens (word h.sign ∷ h.right_tokens) (begun p) _ start
+          ∙ (ap (λ o. o and_then λ b. runs body_step b h.right_tokens) (at_relation_word h.sign h.cmp_of p k.last h.left_term h.rel_is k.ended) ∙ end));
       ended = ap (λ o. o and_then λ b. Some (atom_of h.left_term h.cmp_of b)) l.ended ∙ ap (λ z. Some z) (sym h.atom);
     }
 
@@ -109,10 +109,18 @@ guard_ends u bs (one v a h) =
 guard_ends u bs (more v w cs a g h) =
     let k = guard_ends v cs g in
     let l = atom_ends (Guard cs) w a h in
-    record { place = Guard cs; side = l.side; mode = l.mode; atom = a; ended = l.ended; and = refl; arrow = refl;
+    record {
+      place = Guard cs;
+      side = l.side;
+      mode = l.mode;
+      atom = a;
+      ended = l.ended;
+      and = refl;
+      arrow = refl;
       goes = runs_on body_step v (word kinds.And ∷ w) (begun First) _ k.goes
-        ∙ (ap (λ o. (o and_then λ b. at_and k.place b and_then λ q. Some (begun q)) and_then λ b. runs body_step b w) k.ended
-        ∙ (ap (λ o. (o and_then λ q. Some (begun q)) and_then λ b. runs body_step b w) k.and ∙ l.goes)) }
+          ∙ (ap (λ o. (o and_then λ b. at_and k.place b and_then λ q. Some (begun q)) and_then λ b. runs body_step b w) k.ended
+          ∙ (ap (λ o. (o and_then λ q. Some (begun q)) and_then λ b. runs body_step b w) k.and ∙ l.goes));
+    }
 
 pub record HeadEnds (p : Place) (gs : List Atom) (u : List Token) (bs : List Atom) : Type 0 where
   pub place : Place
@@ -138,10 +146,18 @@ head_ends p gs u bs h (one v a g) =
 head_ends p gs u bs h (more v w cs a g i) =
     let k = head_ends p gs v cs h g in
     let l = atom_ends (Head gs cs) w a i in
-    record { place = Head gs cs; side = l.side; mode = l.mode; atom = a; ended = l.ended; or = refl; all = refl;
+    record {
+      place = Head gs cs;
+      side = l.side;
+      mode = l.mode;
+      atom = a;
+      ended = l.ended;
+      or = refl;
+      all = refl;
       goes = runs_on body_step v (word kinds.Or ∷ w) (begun p) _ k.goes
-        ∙ (ap (λ o. (o and_then λ b. at_or k.place b and_then λ q. Some (begun q)) and_then λ b. runs body_step b w) k.ended
-        ∙ (ap (λ o. (o and_then λ q. Some (begun q)) and_then λ b. runs body_step b w) k.or ∙ l.goes)) }
+          ∙ (ap (λ o. (o and_then λ b. at_or k.place b and_then λ q. Some (begun q)) and_then λ b. runs body_step b w) k.ended
+          ∙ (ap (λ o. (o and_then λ q. Some (begun q)) and_then λ b. runs body_step b w) k.or ∙ l.goes));
+    }
 
 -- a head read at p
 head_read : (p : Place) (gs : List Atom) (u : List Token) (bs : List Atom) → BeginsHead p gs → SpellsHead u bs → result_of body_step body_end (begun p) u ≡ Some (gs, bs)
@@ -157,8 +173,8 @@ body_read u gs bs (body v w g h none k) = head_read First [] w h (record { or = 
 body_read u gs bs (body v w g h (some x cs i) k) =
     let l = guard_ends x cs i in
     let arrow : runs body_step (begun First) (x ++ word kinds.Arrow ∷ []) ≡ Some (begun (Bare cs)) =
-        runs_on body_step x (word kinds.Arrow ∷ []) (begun First) _ l.goes
-        ∙ (ap (λ o. (o and_then λ b. at_arrow l.place b and_then λ q. Some (begun q)) and_then λ b. Some b) l.ended
-        ∙ ap (λ o. (o and_then λ q. Some (begun q)) and_then λ b. Some b) l.arrow) in
+    runs_on body_step x (word kinds.Arrow ∷ []) (begun First) _ l.goes
+    ∙ (ap (λ o. (o and_then λ b. at_arrow l.place b and_then λ q. Some (begun q)) and_then λ b. Some b) l.ended
+    ∙ ap (λ o. (o and_then λ q. Some (begun q)) and_then λ b. Some b) l.arrow) in
     ap (λ o. o and_then body_end) (runs_on body_step (x ++ word kinds.Arrow ∷ []) w (begun First) _ arrow)
-      ∙ head_read (Bare cs) cs w h (record { or = λ a. refl; all = λ a. refl; false_goes = refl }) k
+    ∙ head_read (Bare cs) cs w h (record { or = λ a. refl; all = λ a. refl; false_goes = refl }) k

@@ -37,44 +37,56 @@ one_more : {S : Type 0} (next : S → Token → Option S) (start s n : S) (bytes
     → next s (symbol_of bytes t) ≡ Some n → runs next start (symbols bytes (ts ++ t ∷ [])) ≡ Some n
 one_more next start s n bytes ts t h e =
     ap (runs next start) (symbols-append bytes ts (t ∷ []))
-      ∙ (runs_on next (symbols bytes ts) (symbol_of bytes t ∷ []) start s h ∙ runs_one next s n (symbol_of bytes t) e)
+    ∙ (runs_on next (symbols bytes ts) (symbol_of bytes t ∷ []) start s h ∙ runs_one next s n (symbol_of bytes t) e)
 
 pub reading_goes : (bytes : List ℕ) (place : ℕ) (s n : Progress) (c d : Counts) (t : Placed) → IsReading bytes place s c → next_from bytes place ≡ Ok t → t.kind ≢ kinds.End
     → top_step s (symbol_of bytes t) ≡ Some n → count c (symbol_of bytes t) ≡ Some d → IsReading bytes t.end n d
 reading_goes bytes place s n c d t h e k g f = record {
-    tokens = h.tokens ++ t ∷ [];
-    passes = passes_more bytes 0 place h.tokens t h.passes e k;
-    goes = one_more top_step started s n bytes h.tokens t h.goes g;
-    within = one_more count nothing_counted c d bytes h.tokens t h.within f;
-  }
+  tokens = h.tokens ++ t ∷ [];
+  passes = passes_more bytes 0 place h.tokens t h.passes e k;
+  goes = one_more top_step started s n bytes h.tokens t h.goes g;
+  within = one_more count nothing_counted c d bytes h.tokens t h.within f;
+}
 
 pub misplaced : (bytes : List ℕ) (place : ℕ) (s : Progress) (c : Counts) (t : Placed) → IsReading bytes place s c → next_from bytes place ≡ Ok t → t.kind ≢ kinds.End
     → top_step s (symbol_of bytes t) ≡ None → IsFault bytes (Syntax t.start)
 misplaced bytes place s c t h e k g = inl (record {
-    before = h.tokens; token = t; place = t.end;
-    passes = passes_more bytes 0 place h.tokens t h.passes e k;
-    refused = refused_at top_step top_end started SpellsProblem problems_read (symbols bytes h.tokens) s c (symbol_of bytes t) h.goes h.within g;
-    at = refl;
-  })
+  before = h.tokens;
+  token = t;
+  place = t.end;
+  passes = passes_more bytes 0 place h.tokens t h.passes e k;
+  refused = refused_at top_step top_end started SpellsProblem problems_read (symbols bytes h.tokens) s c (symbol_of bytes t) h.goes h.within g;
+  at = refl;
+})
 
 pub past_limit : (bytes : List ℕ) (place : ℕ) (s n : Progress) (c : Counts) (t : Placed) → IsReading bytes place s c → next_from bytes place ≡ Ok t → t.kind ≢ kinds.End
     → top_step s (symbol_of bytes t) ≡ Some n → count c (symbol_of bytes t) ≡ None → IsFault bytes (Deep t.start)
 past_limit bytes place s n c t h e k g f = record {
-    before = h.tokens; token = t; place = t.end;
-    passes = passes_more bytes 0 place h.tokens t h.passes e k;
-    deep = deep_at top_step top_end started SpellsProblem problems_read (symbols bytes h.tokens) s n c (symbol_of bytes t) h.goes h.within g f;
-    at = refl;
-  }
+  before = h.tokens;
+  token = t;
+  place = t.end;
+  passes = passes_more bytes 0 place h.tokens t h.passes e k;
+  deep = deep_at top_step top_end started SpellsProblem problems_read (symbols bytes h.tokens) s n c (symbol_of bytes t) h.goes h.within g f;
+  at = refl;
+}
 
 pub no_token : (bytes : List ℕ) (place : ℕ) (s : Progress) (c : Counts) (e : TokenErr) → IsReading bytes place s c → next_from bytes place ≡ Err e → IsFault bytes (fault_of e)
 no_token bytes place s c (faults.Stray o) h e = inr (inl (record {
-    before = h.tokens; place = place; passes = h.passes; next = inl (o, refl, e); within = (c, h.within);
-    begins = begins top_step top_end started SpellsProblem problems_read (symbols bytes h.tokens) s h.goes;
-  }))
+  before = h.tokens;
+  place = place;
+  passes = h.passes;
+  next = inl (o, refl, e);
+  within = (c, h.within);
+  begins = begins top_step top_end started SpellsProblem problems_read (symbols bytes h.tokens) s h.goes;
+}))
 no_token bytes place s c (faults.LongNumeral o) h e = record {
-    before = h.tokens; place = place; passes = h.passes; next = inr (o, refl, e); within = (c, h.within);
-    begins = begins top_step top_end started SpellsProblem problems_read (symbols bytes h.tokens) s h.goes;
-  }
+  before = h.tokens;
+  place = place;
+  passes = h.passes;
+  next = inr (o, refl, e);
+  within = (c, h.within);
+  begins = begins top_step top_end started SpellsProblem problems_read (symbols bytes h.tokens) s h.goes;
+}
 
 -- the same, where the place and the cause are known by equations
 pub no_token_here : (bytes seen : List ℕ) (place at : ℕ) (s : Progress) (c : Counts) (e : TokenErr) (r : Result Problem ReadErr) → IsReading bytes place s c
@@ -91,15 +103,19 @@ at_end bytes place s c t h e k = record { place = place; passes = h.passes; next
 pub unfinished : (bytes : List ℕ) (place : ℕ) (s : Progress) (c : Counts) (t : Placed) → IsReading bytes place s c → next_from bytes place ≡ Ok t → t.kind ≡ kinds.End
     → top_end s ≡ None → IsFault bytes (Syntax (length bytes))
 unfinished bytes place s c t h e k g = inr (inr (record {
-    tokens = h.tokens; last = t; lexes = at_end bytes place s c t h e k;
-    early = early_at top_step top_end started SpellsProblem problems_read (symbols bytes h.tokens) s c h.goes h.within g;
-    at = refl;
-  }))
+  tokens = h.tokens;
+  last = t;
+  lexes = at_end bytes place s c t h e k;
+  early = early_at top_step top_end started SpellsProblem problems_read (symbols bytes h.tokens) s c h.goes h.within g;
+  at = refl;
+}))
 
 pub spelled : (bytes : List ℕ) (place : ℕ) (s : Progress) (c : Counts) (t : Placed) (p : Problem) → IsReading bytes place s c → next_from bytes place ≡ Ok t → t.kind ≡ kinds.End
     → top_end s ≡ Some p → Spells bytes p
 spelled bytes place s c t p h e k g = record {
-    tokens = h.tokens; last = t; lexes = at_end bytes place s c t h e k;
-    within = (c, h.within);
-    spelled = problems_read.found (symbols bytes h.tokens) p (ap (λ o. o and_then top_end) h.goes ∙ g);
-  }
+  tokens = h.tokens;
+  last = t;
+  lexes = at_end bytes place s c t h e k;
+  within = (c, h.within);
+  spelled = problems_read.found (symbols bytes h.tokens) p (ap (λ o. o and_then top_end) h.goes ∙ g);
+}

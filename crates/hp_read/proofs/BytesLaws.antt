@@ -45,8 +45,8 @@ no_misplaced : (bytes : List ℕ) (p : Problem) (o : ℕ) → Spells bytes p →
 no_misplaced bytes p o s m =
     let f = follow bytes 0 m.place s.lexes.place (m.before ++ m.token ∷ []) s.tokens s.last m.passes s.lexes.passes s.lexes.next s.lexes.is_last in
     let all : symbols bytes s.tokens ≡ (symbols bytes m.before ++ symbol_of bytes m.token ∷ []) ++ symbols bytes f.rest =
-        ap (symbols bytes) f.all ∙ (symbols-append bytes (m.before ++ m.token ∷ []) f.rest
-          ∙ ap (λ z. z ++ symbols bytes f.rest) (symbols-append bytes m.before (m.token ∷ []))) in
+    ap (symbols bytes) f.all ∙ (symbols-append bytes (m.before ++ m.token ∷ []) f.rest
+    ∙ ap (λ z. z ++ symbols bytes f.rest) (symbols-append bytes m.before (m.token ∷ []))) in
     m.refused.refused (symbols bytes f.rest) p (subst (λ z. SpellsProblem z p) all s.spelled)
 
 -- a run that stops doesn't go on
@@ -60,8 +60,8 @@ no_past_limit : (bytes : List ℕ) (p : Problem) (o : ℕ) → Spells bytes p �
 no_past_limit bytes p o s m =
     let f = follow bytes 0 m.place s.lexes.place (m.before ++ m.token ∷ []) s.tokens s.last m.passes s.lexes.passes s.lexes.next s.lexes.is_last in
     let all : symbols bytes s.tokens ≡ (symbols bytes m.before ++ symbol_of bytes m.token ∷ []) ++ symbols bytes f.rest =
-        ap (symbols bytes) f.all ∙ (symbols-append bytes (m.before ++ m.token ∷ []) f.rest
-          ∙ ap (λ z. z ++ symbols bytes f.rest) (symbols-append bytes m.before (m.token ∷ []))) in
+    ap (symbols bytes) f.all ∙ (symbols-append bytes (m.before ++ m.token ∷ []) f.rest
+    ∙ ap (λ z. z ++ symbols bytes f.rest) (symbols-append bytes m.before (m.token ∷ []))) in
     let end : counted ((symbols bytes m.before ++ symbol_of bytes m.token ∷ []) ++ symbols bytes f.rest) ≡ Some s.within.0 = ap counted (sym all) ∙ s.within.1 in
     stops (symbols bytes m.before ++ symbol_of bytes m.token ∷ []) (symbols bytes f.rest) nothing_counted s.within.0 m.deep.passed end
 
@@ -76,8 +76,8 @@ no_no_token : (bytes : List ℕ) (p : Problem) (e : ReadErr) → Spells bytes p 
 no_no_token bytes p e s m =
     let f = follow bytes 0 m.place s.lexes.place m.before s.tokens s.last m.passes s.lexes.passes s.lexes.next s.lexes.is_last in
     elim m.next [
-      inl k ↦ stands bytes m.place s.lexes.place f.rest s.last _ f.passes s.lexes.next k.2
-    | inr k ↦ stands bytes m.place s.lexes.place f.rest s.last _ f.passes s.lexes.next k.2
+      | inl k ↦ stands bytes m.place s.lexes.place f.rest s.last _ f.passes s.lexes.next k.2
+      | inr k ↦ stands bytes m.place s.lexes.place f.rest s.last _ f.passes s.lexes.next k.2
     ]
 
 no_unfinished : (bytes : List ℕ) (p : Problem) (o : ℕ) → Spells bytes p → IsUnfinished bytes o → ⊥
@@ -99,7 +99,7 @@ pub one_problem : (bytes : List ℕ) (p q : Problem) → Spells bytes p → Spel
 one_problem bytes p q s r =
     let one = (one_lexing bytes).one s.tokens r.tokens (Ok s.last) (Ok r.last) s.lexes r.lexes in
     one_value top_step top_end started SpellsProblem problems_read (symbols bytes r.tokens) p q
-      (subst (λ z. SpellsProblem (symbols bytes z) p) one.0 s.spelled) r.spelled
+    (subst (λ z. SpellsProblem (symbols bytes z) p) one.0 s.spelled) r.spelled
 
 -- what the reader answers where the bytes spell a problem
 pub read_only : (bytes : List ℕ) (r : Result Problem ReadErr) → IfOk r (Spells bytes) → IfErr r (IsFault bytes) → (p : Problem) → Spells bytes p

@@ -39,12 +39,12 @@ pub sort_is : (k : Kind) (s : Sort) → sort_of k ≡ Some s → SpellsSort (wor
 unfolding sort_of
 sort_is k s e =
     elim (choice (same k kinds.Num) _ _ s e) [
-      inl h ↦ let z : sorts.Num ≡ s = cc in subst (λ a. SpellsSort (word k ∷ []) a) z (sort_word k _ _ num h.0)
-    | inr h ↦ elim (choice (same k kinds.Idx) _ _ s h.1) [
-        inl g ↦ let z : sorts.Idx ≡ s = cc in subst (λ a. SpellsSort (word k ∷ []) a) z (sort_word k _ _ idx g.0)
-      | inr g ↦ elim (choice (same k kinds.Ptr) _ _ s g.1) [
-          inl i ↦ let z : sorts.Ptr ≡ s = cc in subst (λ a. SpellsSort (word k ∷ []) a) z (sort_word k _ _ ptr i.0)
-        | inr i ↦ absurd (cc)
+      | inl h ↦ let z : sorts.Num ≡ s = cc in subst (λ a. SpellsSort (word k ∷ []) a) z (sort_word k _ _ num h.0)
+      | inr h ↦ elim (choice (same k kinds.Idx) _ _ s h.1) [
+        | inl g ↦ let z : sorts.Idx ≡ s = cc in subst (λ a. SpellsSort (word k ∷ []) a) z (sort_word k _ _ idx g.0)
+        | inr g ↦ elim (choice (same k kinds.Ptr) _ _ s g.1) [
+          | inl i ↦ let z : sorts.Ptr ≡ s = cc in subst (λ a. SpellsSort (word k ∷ []) a) z (sort_word k _ _ ptr i.0)
+          | inr i ↦ absurd (cc)
         ]
       ]
     ]
@@ -63,10 +63,10 @@ constants_step_is (c.Name xs) n (name x) u h e = let z : c.Named (xs ++ x ∷ []
 constants_step_is (c.Name xs) n (numeral x) u h e = absurd (cc)
 constants_step_is (c.Named xs) n (word k) u h e =
     elim (choice (same k kinds.Comma) _ _ n e) [
-      inl g ↦ let z : c.Name xs ≡ n = cc in subst (λ a. ConstantsIs a (u and word k)) z (inr (u, h, ap (λ l. u and word l) (same-is k _ g.0)))
-    | inr g ↦ elim (choice (same k kinds.Colon) _ _ n g.1) [
-        inl i ↦ let z : c.Colon xs ≡ n = cc in subst (λ a. ConstantsIs a (u and word k)) z (u, h, ap (λ l. u and word l) (same-is k _ i.0))
-      | inr i ↦ absurd (cc)
+      | inl g ↦ let z : c.Name xs ≡ n = cc in subst (λ a. ConstantsIs a (u and word k)) z (inr (u, h, ap (λ l. u and word l) (same-is k _ g.0)))
+      | inr g ↦ elim (choice (same k kinds.Colon) _ _ n g.1) [
+        | inl i ↦ let z : c.Colon xs ≡ n = cc in subst (λ a. ConstantsIs a (u and word k)) z (u, h, ap (λ l. u and word l) (same-is k _ i.0))
+        | inr i ↦ absurd (cc)
       ]
     ]
 constants_step_is (c.Named xs) n (name x) u h e = absurd (cc)
@@ -116,9 +116,9 @@ function_word_is : (a n : Function) (k : Kind) (u : List Token) → FunctionIs a
 function_word_is f.Name n k u h e = absurd (cc)
 function_word_is (f.Named x) n k u h e =
     elim (choice (same k kinds.OpenRound) _ _ n e) [
-      inl g ↦ let z : f.Argument x [] ≡ n = cc in
-        subst (λ a. FunctionIs a (u and word k)) z ([], inl (refl, refl), rw (h, same-is k _ g.0) refl)
-    | inr g ↦ absurd (cc)
+      | inl g ↦ let z : f.Argument x [] ≡ n = cc in
+          subst (λ a. FunctionIs a (u and word k)) z ([], inl (refl, refl), rw (h, same-is k _ g.0) refl)
+      | inr g ↦ absurd (cc)
     ]
 function_word_is (f.Argument x ss) n k u h e =
     let b = bound (sort_of k) (λ s. Some (f.Sorted x (ss ++ s ∷ []))) n e in
@@ -126,30 +126,30 @@ function_word_is (f.Argument x ss) n k u h e =
     subst (λ a. FunctionIs a (u and word k)) z (h.0 ++ word k ∷ [], listed SpellsSort ss h.0 _ b.0 h.1 (sort_is k b.0 b.1), rw h.2 refl)
 function_word_is (f.Sorted x ss) n k u h e =
     elim (choice (same k kinds.Comma) _ _ n e) [
-      inl g ↦ let z : f.Argument x ss ≡ n = cc in
-        subst (λ a. FunctionIs a (u and word k)) z (h.0 and word kinds.Comma, inr (h.0, h.1, refl), rw (h.2, same-is k _ g.0) refl)
-    | inr g ↦ elim (choice (same k kinds.CloseRound) _ _ n g.1) [
-        inl i ↦ let z : f.Closed x ss ≡ n = cc in
-          subst (λ a. FunctionIs a (u and word k)) z (h.0, h.1, rw (h.2, same-is k _ i.0) refl)
-      | inr i ↦ absurd (cc)
+      | inl g ↦ let z : f.Argument x ss ≡ n = cc in
+          subst (λ a. FunctionIs a (u and word k)) z (h.0 and word kinds.Comma, inr (h.0, h.1, refl), rw (h.2, same-is k _ g.0) refl)
+      | inr g ↦ elim (choice (same k kinds.CloseRound) _ _ n g.1) [
+        | inl i ↦ let z : f.Closed x ss ≡ n = cc in
+            subst (λ a. FunctionIs a (u and word k)) z (h.0, h.1, rw (h.2, same-is k _ i.0) refl)
+        | inr i ↦ absurd (cc)
       ]
     ]
 function_word_is (f.Closed x ss) n k u h e =
     elim (choice (same k kinds.Colon) _ _ n e) [
-      inl g ↦ let z : f.Colon x ss ≡ n = cc in
-        subst (λ a. FunctionIs a (u and word k)) z (u, h, ap (λ l. u and word l) (same-is k _ g.0))
-    | inr g ↦ absurd (cc)
+      | inl g ↦ let z : f.Colon x ss ≡ n = cc in
+          subst (λ a. FunctionIs a (u and word k)) z (u, h, ap (λ l. u and word l) (same-is k _ g.0))
+      | inr g ↦ absurd (cc)
     ]
 function_word_is (f.Colon x ss) n k u h e =
     let b = bound (sort_of k) (λ s. Some (f.Returning x ss s)) n e in
     let z : f.Returning x ss b.0 ≡ n = cc (b.2) in
     subst (λ a. FunctionIs a (u and word k)) z
-      (h.1.0, word k ∷ [], h.1.1, sort_is k b.0 b.1, rw (h.2, h.1.2) (simp append_assoc))
+    (h.1.0, word k ∷ [], h.1.1, sort_is k b.0 b.1, rw (h.2, h.1.2) (simp append_assoc))
 function_word_is (f.Returning x ss s) n k u h e =
     elim (choice (same k kinds.Level) _ _ n e) [
-      inl g ↦ let z : f.Level x ss s ≡ n = cc in
-        subst (λ a. FunctionIs a (u and word k)) z (u, h, ap (λ l. u and word l) (same-is k _ g.0))
-    | inr g ↦ absurd (cc)
+      | inl g ↦ let z : f.Level x ss s ≡ n = cc in
+          subst (λ a. FunctionIs a (u and word k)) z (u, h, ap (λ l. u and word l) (same-is k _ g.0))
+      | inr g ↦ absurd (cc)
     ]
 function_word_is (f.Level x ss s) n k u h e = absurd (cc)
 function_word_is (f.Leveled x ss s m) n k u h e = absurd (cc)
@@ -198,9 +198,9 @@ variables_step_is (v.Name vs) n (name x) u h e = let z : v.Named vs x ≡ n = cc
 variables_step_is (v.Name vs) n (numeral m) u h e = absurd (cc)
 variables_step_is (v.Named vs x) n (word k) u h e =
     elim (choice (same k kinds.Colon) _ _ n e) [
-      inl g ↦ let z : v.Colon vs x ≡ n = cc in
-        subst (λ a. VariablesAre a (u and word k)) z (h.0, h.1, rw (h.2, same-is k _ g.0, append_assoc) refl)
-    | inr g ↦ absurd (cc)
+      | inl g ↦ let z : v.Colon vs x ≡ n = cc in
+          subst (λ a. VariablesAre a (u and word k)) z (h.0, h.1, rw (h.2, same-is k _ g.0, append_assoc) refl)
+      | inr g ↦ absurd (cc)
     ]
 variables_step_is (v.Named vs x) n (name y) u h e = absurd (cc)
 variables_step_is (v.Named vs x) n (numeral m) u h e = absurd (cc)
@@ -208,14 +208,14 @@ variables_step_is (v.Colon vs x) n (word k) u h e =
     let b = bound (sort_of k) (λ s. Some (v.Sorted (vs ++ variable_of x s ∷ []))) n e in
     let z : v.Sorted (vs ++ variable_of x b.0 ∷ []) ≡ n = cc (b.2) in
     subst (λ a. VariablesAre a (u and word k)) z
-      (rw (h.2, append_assoc) (listed SpellsVariable vs h.0 _ _ h.1 (variable x (word k ∷ []) b.0 (sort_is k b.0 b.1))))
+    (rw (h.2, append_assoc) (listed SpellsVariable vs h.0 _ _ h.1 (variable x (word k ∷ []) b.0 (sort_is k b.0 b.1))))
 variables_step_is (v.Colon vs x) n (name y) u h e = absurd (cc)
 variables_step_is (v.Colon vs x) n (numeral m) u h e = absurd (cc)
 variables_step_is (v.Sorted vs) n (word k) u h e =
     elim (choice (same k kinds.Comma) _ _ n e) [
-      inl g ↦ let z : v.Name vs ≡ n = cc in
-        subst (λ a. VariablesAre a (u and word k)) z (inr (u, h, ap (λ l. u and word l) (same-is k _ g.0)))
-    | inr g ↦ absurd (cc)
+      | inl g ↦ let z : v.Name vs ≡ n = cc in
+          subst (λ a. VariablesAre a (u and word k)) z (inr (u, h, ap (λ l. u and word l) (same-is k _ g.0)))
+      | inr g ↦ absurd (cc)
     ]
 variables_step_is (v.Sorted vs) n (name y) u h e = absurd (cc)
 variables_step_is (v.Sorted vs) n (numeral m) u h e = absurd (cc)

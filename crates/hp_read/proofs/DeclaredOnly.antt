@@ -38,8 +38,8 @@ constants_only : (u : List Token) (ds : List Decl) → SpellsConstants u ds → 
 unfolding same
 constants_only u ds (constants w z xs s h g) =
     ap (λ o. o and_then constants_end)
-      (runs_on constants_step w (word kinds.Colon ∷ z) (c.Name []) (c.Named xs) (list_read constants_step (c.Name []) c.Name c.Named SpellsName names_go w xs h)
-        ∙ sort_ends xs z s g)
+    (runs_on constants_step w (word kinds.Colon ∷ z) (c.Name []) (c.Named xs) (list_read constants_step (c.Name []) c.Name c.Named SpellsName names_go w xs h)
+    ∙ sort_ends xs z s g)
 
 constants_ends : (a : Constants) → (u : List Token) × (ds : List Decl) × AreTokens u × (result_of constants_step constants_end a u ≡ Some ds)
 unfolding same sort_of
@@ -73,21 +73,30 @@ unfolding same
 function_only u d (function x w z ss s n h g) =
     let rest : List Token = word kinds.Level ∷ numeral n ∷ [] in
     ap (λ o. o and_then function_end)
-      (runs_on function_step w (word kinds.CloseRound ∷ word kinds.Colon ∷ z ++ rest) (f.Argument x []) (f.Sorted x ss)
-          (list_read function_step (f.Argument x []) (f.Argument x) (f.Sorted x) SpellsSort (arguments_go x) w ss h)
-        ∙ runs_on function_step z rest (f.Colon x ss) (f.Returning x ss s) (return_goes x ss z s g))
+    (runs_on function_step w (word kinds.CloseRound ∷ word kinds.Colon ∷ z ++ rest) (f.Argument x []) (f.Sorted x ss)
+    (list_read function_step (f.Argument x []) (f.Argument x) (f.Sorted x) SpellsSort (arguments_go x) w ss h)
+    ∙ runs_on function_step z rest (f.Colon x ss) (f.Returning x ss s) (return_goes x ss z s g))
 
 function_ends : (a : Function) → (u : List Token) × (d : Decl) × AreTokens u × (result_of function_step function_end a u ≡ Some d)
 unfolding same sort_of
-function_ends f.Name =
-    (name (120 ∷ []) ∷ word kinds.OpenRound ∷ word kinds.Num ∷ word kinds.CloseRound ∷ word kinds.Colon ∷ word kinds.Num ∷ word kinds.Level ∷ numeral 1 ∷ [], _,
-      (refl, (refl, (refl, (refl, (refl, (refl, (refl, (refl, tt)))))))), refl)
-function_ends (f.Named x) =
-    (word kinds.OpenRound ∷ word kinds.Num ∷ word kinds.CloseRound ∷ word kinds.Colon ∷ word kinds.Num ∷ word kinds.Level ∷ numeral 1 ∷ [], _,
-      (refl, (refl, (refl, (refl, (refl, (refl, (refl, tt))))))), refl)
-function_ends (f.Argument x ss) =
-    (word kinds.Num ∷ word kinds.CloseRound ∷ word kinds.Colon ∷ word kinds.Num ∷ word kinds.Level ∷ numeral 1 ∷ [], _,
-      (refl, (refl, (refl, (refl, (refl, (refl, tt)))))), refl)
+function_ends f.Name = (
+  name (120 ∷ []) ∷ word kinds.OpenRound ∷ word kinds.Num ∷ word kinds.CloseRound ∷ word kinds.Colon ∷ word kinds.Num ∷ word kinds.Level ∷ numeral 1 ∷ [],
+  _,
+  (refl, (refl, (refl, (refl, (refl, (refl, (refl, (refl, tt)))))))),
+  refl,
+)
+function_ends (f.Named x) = (
+  word kinds.OpenRound ∷ word kinds.Num ∷ word kinds.CloseRound ∷ word kinds.Colon ∷ word kinds.Num ∷ word kinds.Level ∷ numeral 1 ∷ [],
+  _,
+  (refl, (refl, (refl, (refl, (refl, (refl, (refl, tt))))))),
+  refl,
+)
+function_ends (f.Argument x ss) = (
+  word kinds.Num ∷ word kinds.CloseRound ∷ word kinds.Colon ∷ word kinds.Num ∷ word kinds.Level ∷ numeral 1 ∷ [],
+  _,
+  (refl, (refl, (refl, (refl, (refl, (refl, tt)))))),
+  refl,
+)
 function_ends (f.Sorted x ss) =
     (word kinds.CloseRound ∷ word kinds.Colon ∷ word kinds.Num ∷ word kinds.Level ∷ numeral 1 ∷ [], _, (refl, (refl, (refl, (refl, (refl, tt))))), refl)
 function_ends (f.Closed x ss) = (word kinds.Colon ∷ word kinds.Num ∷ word kinds.Level ∷ numeral 1 ∷ [], _, (refl, (refl, (refl, (refl, tt)))), refl)

@@ -48,19 +48,37 @@ unfolding same at_word number_goes factor_goes end_goes plus_goes minus_goes sta
 frames_finish [] m t e = record { tokens = []; real = tt; last = m; term = t; goes = refl; ended = e }
 frames_finish (Group f s ∷ fs) m t e =
     let k = frames_finish fs (Done f s t) (joined f (scaled s t)) refl in
-    record { tokens = word kinds.CloseRound ∷ k.tokens; real = (refl, k.real); last = k.last; term = k.term; ended = k.ended;
-      goes = ap (λ o. (o and_then λ a. close a (Group f s ∷ fs)) and_then λ n. runs step n k.tokens) e ∙ k.goes }
+    record {
+      tokens = word kinds.CloseRound ∷ k.tokens;
+      real = (refl, k.real);
+      last = k.last;
+      term = k.term;
+      ended = k.ended;
+      goes = ap (λ o. (o and_then λ a. close a (Group f s ∷ fs)) and_then λ n. runs step n k.tokens) e ∙ k.goes;
+    }
 frames_finish (Call f s y ts ∷ fs) m t e =
     let k = frames_finish fs (Done f s (apply y (ts ++ t ∷ []))) (joined f (scaled s (apply y (ts ++ t ∷ [])))) refl in
-    record { tokens = word kinds.CloseRound ∷ k.tokens; real = (refl, k.real); last = k.last; term = k.term; ended = k.ended;
-      goes = ap (λ o. (o and_then λ a. close a (Call f s y ts ∷ fs)) and_then λ n. runs step n k.tokens) e ∙ k.goes }
+    record {
+      tokens = word kinds.CloseRound ∷ k.tokens;
+      real = (refl, k.real);
+      last = k.last;
+      term = k.term;
+      ended = k.ended;
+      goes = ap (λ o. (o and_then λ a. close a (Call f s y ts ∷ fs)) and_then λ n. runs step n k.tokens) e ∙ k.goes;
+    }
 
 pub finishes : (m : Mode) (fs : List Frame) → Finishes m fs []
 finishes m fs =
     let k = mode_finishes m fs in
     let l = frames_finish fs k.last k.term k.ended in
-    record { tokens = k.tokens ++ l.tokens; real = are_both k.tokens l.tokens k.real l.real; last = l.last; term = l.term; ended = l.ended;
-      goes = runs_on step k.tokens l.tokens (m, fs) (k.last, fs) k.goes ∙ l.goes }
+    record {
+      tokens = k.tokens ++ l.tokens;
+      real = are_both k.tokens l.tokens k.real l.real;
+      last = l.last;
+      term = l.term;
+      ended = l.ended;
+      goes = runs_on step k.tokens l.tokens (m, fs) (k.last, fs) k.goes ∙ l.goes;
+    }
 
 -- a term as a whole text
 abbrev pub accept : State → Option Term
@@ -73,10 +91,10 @@ accepted (m, f ∷ fs) t e = absurd (cc)
 
 pub terms_read : Reads step accept (Part Nothing, []) SpellsTerm
 terms_read = record {
-    found = λ u t e.
+  found = λ u t e.
       let b = bound (runs step (Part Nothing, []) u) accept t e in
       let c = accepted b.0 t b.2 in
       term_is u c.0 t (b.1 ∙ ap (λ s. Some s) c.1) c.2;
-    only = λ u t h. let k = term_ends u t h [] in ap (λ o. o and_then accept) k.goes ∙ k.ended;
-    ends = λ s. let k = finishes s.0 s.1 in (k.tokens, k.term, k.real, ap (λ o. o and_then accept) k.goes ∙ k.ended);
-  }
+  only = λ u t h. let k = term_ends u t h [] in ap (λ o. o and_then accept) k.goes ∙ k.ended;
+  ends = λ s. let k = finishes s.0 s.1 in (k.tokens, k.term, k.real, ap (λ o. o and_then accept) k.goes ∙ k.ended);
+}

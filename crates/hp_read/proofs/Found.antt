@@ -106,12 +106,12 @@ ended_is (Done f s a) u t h e = let k : joined f (scaled s a) ≡ t = cc in
 longer : (f : Front) (P Q : List Token → Type 0) (u : List Token) (k : Token) → Behind f P u
     → ((v : List Token) → P v → Q (v and k)) → Behind f Q (u and k)
 longer f P Q u k h more_of = record {
-    front_tokens = h.front_tokens;
-    tokens = h.tokens and k;
-    front = h.front;
-    here = more_of h.tokens h.here;
-    split = ap (λ v. v and k) h.split ∙ append_assoc h.front_tokens h.tokens (k ∷ []);
-  }
+  front_tokens = h.front_tokens;
+  tokens = h.tokens and k;
+  front = h.front;
+  here = more_of h.tokens h.here;
+  split = ap (λ v. v and k) h.split ∙ append_assoc h.front_tokens h.tokens (k ∷ []);
+}
 
 -- the first token behind a front
 begun : (f : Front) (Q : List Token → Type 0) (u : List Token) (k : Token) → FrontIs f u → Q (k ∷ []) → Behind f Q (u and k)
@@ -204,12 +204,12 @@ open_is (Done f s a) n u h e = absurd (cc)
 in_mode : (fs : List Frame) (m n : Mode) (u : List Token) (k : Token) → StateIs (m, fs) u
     → ((v : List Token) → ModeIs m v → ModeIs n (v and k)) → StateIs (n, fs) (u and k)
 in_mode fs m n u k h next = record {
-    outer = h.outer;
-    inner = h.inner and k;
-    frames = h.frames;
-    mode = next h.inner h.mode;
-    split = ap (λ v. v and k) h.split ∙ append_assoc h.outer h.inner (k ∷ []);
-  }
+  outer = h.outer;
+  inner = h.inner and k;
+  frames = h.frames;
+  mode = next h.inner h.mode;
+  split = ap (λ v. v and k) h.split ∙ append_assoc h.outer h.inner (k ∷ []);
+}
 
 arguments_are : (ts : List Term) (u v : List Token) (t : Term) → ArgsAre ts u → SpellsTerm v t → SpellsTerms (u ++ v) (ts ++ t ∷ [])
 arguments_are ts u v t (inl h) k = rw (h.0, h.1) (first v t k)
@@ -264,13 +264,19 @@ next_is (Call f s a ts ∷ fs) n x y t h k e =
     subst (λ z. StateIs z ((x ++ y) and word kinds.Comma)) same (record {
       outer = h.0 ++ (g.front_tokens ++ (g.here.0 ++ w));
       inner = [];
-      frames = (h.0, g.front_tokens ++ (g.here.0 ++ w), h.2, record {
+      frames = (
+        h.0,
+        g.front_tokens ++ (g.here.0 ++ w),
+        h.2,
+        record {
           front_tokens = g.front_tokens;
           tokens = g.here.0 ++ w;
           front = g.front;
           here = (g.here.0, v, g.here.2, inr (g.here.1 ++ y, arguments_are ts g.here.1 y t g.here.3 k, refl), refl);
           split = refl;
-        }, refl);
+        },
+        refl,
+      );
       mode = refl;
       split = rw (h.4, g.split, g.here.4) (simp append_assoc);
     })
@@ -292,7 +298,7 @@ word_is kinds.Plus m fs n u h e =
     let b = bound (ended m) (λ t. Some (Part (Sum t), fs)) n e in
     let same : (Part (Sum b.0), fs) ≡ n = cc (b.2) in
     subst (λ z. StateIs z (u and word kinds.Plus)) same
-      (in_mode fs m (Part (Sum b.0)) u (word kinds.Plus) h (λ v g. (v, ended_is m v b.0 g b.1, refl)))
+    (in_mode fs m (Part (Sum b.0)) u (word kinds.Plus) h (λ v g. (v, ended_is m v b.0 g b.1, refl)))
 word_is kinds.Minus m fs n u h e = moved fs (at_minus m) m n u _ h (λ a v q g. minus_is m a v g q) e
 word_is kinds.Star m fs n u h e = moved fs (at_star m) m n u _ h (λ a v q g. star_is m a v g q) e
 word_is kinds.Slash m fs n u h e = moved fs (at_slash m) m n u _ h (λ a v q g. slash_is m a v g q) e
@@ -303,8 +309,13 @@ word_is kinds.OpenRound m fs n u h e =
     subst (λ z. StateIs z (u and word kinds.OpenRound)) same (record {
       outer = u and word kinds.OpenRound;
       inner = [];
-      frames = (h.outer, h.inner and word kinds.OpenRound, h.frames, open_is m b.0 h.inner h.mode b.1,
-        ap (λ v. v and word kinds.OpenRound) h.split ∙ append_assoc h.outer h.inner _);
+      frames = (
+        h.outer,
+        h.inner and word kinds.OpenRound,
+        h.frames,
+        open_is m b.0 h.inner h.mode b.1,
+        ap (λ v. v and word kinds.OpenRound) h.split ∙ append_assoc h.outer h.inner _,
+      );
       mode = refl;
       split = sym (append-nil _);
     })

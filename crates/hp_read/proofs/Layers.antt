@@ -55,7 +55,7 @@ pub list_read : {S A : Type 0} (next : S → Token → Option S) (start : S) (wa
 list_read next start wants has Spells l u xs (one v a h) = l.starts v a h
 list_read next start wants has Spells l u xs (more v w ys a g h) =
     runs_on next v (word kinds.Comma ∷ w) start (has ys) (list_read next start wants has Spells l v ys g)
-      ∙ (ap (λ o. o and_then λ c. runs next c w) (l.comma ys) ∙ l.goes ys w a h)
+    ∙ (ap (λ o. o and_then λ c. runs next c w) (l.comma ys) ∙ l.goes ys w a h)
 
 -- items that a comma ends, if there are any
 abbrev pub ListIs : {A : Type 0} → (List Token → A → Type 0) → List A → List Token → Type 0

@@ -13,3 +13,4 @@ pub mod TopOnly
 pub mod Bytes
 pub mod BytesLaws
 pub mod Symbols
+pub mod Meaning

@@ -77,6 +77,7 @@ minus_at_end (Done f s a) t e = ap (λ o. o and_then λ a. Some (Part (Differenc
 
 mutual
   unfolding same at_word number_goes factor_goes end_goes plus_goes minus_goes star_goes slash_goes null_goes open_goes close_goes comma_goes
+
   pub term_ends : (u : List Token) (t : Term) → SpellsTerm u t → (fs : List Frame) → Ends (Part Nothing) fs u t
   term_ends u t (part v a h) fs = part_ends u t h Nothing fs
   term_ends u t (minus v a h) fs =
@@ -85,45 +86,66 @@ mutual
   term_ends u t (sum v w a b h g) fs =
       let k = term_ends v a h fs in
       let l = part_ends w b g (Sum a) fs in
-      record { last = l.last; ended = l.ended;
+      record {
+        last = l.last;
+        ended = l.ended;
         goes = goes_on v (word kinds.Plus ∷ w) (Part Nothing, fs) (k.last, fs) (l.last, fs) k.goes
-          (ap (λ o. (o and_then λ c. Some (Part (Sum c), fs)) and_then λ c. run c w) k.ended ∙ l.goes) }
+            (ap (λ o. (o and_then λ c. Some (Part (Sum c), fs)) and_then λ c. run c w) k.ended ∙ l.goes);
+      }
   term_ends u t (difference v w a b h g) fs =
       let k = term_ends v a h fs in
       let l = part_ends w b g (Difference a) fs in
-      record { last = l.last; ended = l.ended;
+      record {
+        last = l.last;
+        ended = l.ended;
         goes = goes_on v (word kinds.Minus ∷ w) (Part Nothing, fs) (k.last, fs) (l.last, fs) k.goes
-          (ap (λ o. (o and_then λ c. Some (c, fs)) and_then λ c. run c w) (minus_at_end k.last a k.ended) ∙ l.goes) }
+            (ap (λ o. (o and_then λ c. Some (c, fs)) and_then λ c. run c w) (minus_at_end k.last a k.ended) ∙ l.goes);
+      }
 
   pub part_ends : (u : List Token) (t : Term) → SpellsPart u t → (f : Front) (fs : List Frame) → Ends (Part f) fs u (joined f t)
   part_ends u t (number v q h) f fs = let k = number_ends v q h f fs in record { last = k.0; goes = k.1; ended = k.2 }
   part_ends u t (product v w q a h g) f fs =
       let k = number_ends v q h f fs in
       let l = factor_ends w a g f (Some q) fs in
-      record { last = l.last; ended = l.ended;
+      record {
+        last = l.last;
+        ended = l.ended;
         goes = goes_on v (word kinds.Star ∷ w) (Part f, fs) (k.0, fs) (l.last, fs) k.1
-          (ap (λ o. (o and_then λ c. Some (c, fs)) and_then λ c. run c w) k.3 ∙ l.goes) }
+            (ap (λ o. (o and_then λ c. Some (c, fs)) and_then λ c. run c w) k.3 ∙ l.goes);
+      }
   part_ends u t (factor v a h) f fs = factor_ends v a h f None fs
 
   pub factor_ends : (u : List Token) (t : Term) → SpellsFactor u t → (f : Front) (s : Option ℚ) (fs : List Frame) → Ends (wanting f s) fs u (joined f (scaled s t))
   factor_ends u t (single x) f s fs =
-      record { last = Named f s x; ended = refl;
-        goes = ap (λ o. (o and_then λ c. Some (c, fs)) and_then λ c. Some c) (names f s x) }
+      record {
+        last = Named f s x;
+        ended = refl;
+        goes = ap (λ o. (o and_then λ c. Some (c, fs)) and_then λ c. Some c) (names f s x);
+      }
   factor_ends u t (call x v ts h) f s fs =
       let k = terms_end v ts h f s x fs in
-      record { last = Done f s (apply x ts); ended = refl;
+      record {
+        last = Done f s (apply x ts);
+        ended = refl;
         goes = ap (λ o. (o and_then λ c. Some (c, fs)) and_then λ c. run c (word kinds.OpenRound ∷ v ++ word kinds.CloseRound ∷ [])) (names f s x)
-          ∙ goes_on v (word kinds.CloseRound ∷ []) (Part Nothing, Call f s x [] ∷ fs) (k.last, Call f s x k.before ∷ fs) (Done f s (apply x ts), fs) k.goes
-            (ap (λ o. (o and_then λ c. close c (Call f s x k.before ∷ fs)) and_then λ c. Some c) k.ended ∙ ap (λ z. Some (Done f s (apply x z), fs)) (sym k.all)) }
+            ∙ goes_on v (word kinds.CloseRound ∷ []) (Part Nothing, Call f s x [] ∷ fs) (k.last, Call f s x k.before ∷ fs) (Done f s (apply x ts), fs) k.goes
+            (ap (λ o. (o and_then λ c. close c (Call f s x k.before ∷ fs)) and_then λ c. Some c) k.ended ∙ ap (λ z. Some (Done f s (apply x z), fs)) (sym k.all));
+      }
   factor_ends u t nothing f s fs =
-      record { last = Done f s null; ended = refl;
-        goes = ap (λ o. (o and_then λ c. Some (c, fs)) and_then λ c. Some c) (nulls f s) }
+      record {
+        last = Done f s null;
+        ended = refl;
+        goes = ap (λ o. (o and_then λ c. Some (c, fs)) and_then λ c. Some c) (nulls f s);
+      }
   factor_ends u t (group v a h) f s fs =
       let k = term_ends v a h (Group f s ∷ fs) in
-      record { last = Done f s a; ended = refl;
+      record {
+        last = Done f s a;
+        ended = refl;
         goes = ap (λ o. (o and_then λ c. Some (Part Nothing, c ∷ fs)) and_then λ c. run c (v ++ word kinds.CloseRound ∷ [])) (opens f s)
-          ∙ goes_on v (word kinds.CloseRound ∷ []) (Part Nothing, Group f s ∷ fs) (k.last, Group f s ∷ fs) (Done f s a, fs) k.goes
-            (ap (λ o. (o and_then λ c. close c (Group f s ∷ fs)) and_then λ c. Some c) k.ended) }
+            ∙ goes_on v (word kinds.CloseRound ∷ []) (Part Nothing, Group f s ∷ fs) (k.last, Group f s ∷ fs) (Done f s a, fs) k.goes
+            (ap (λ o. (o and_then λ c. close c (Group f s ∷ fs)) and_then λ c. Some c) k.ended);
+      }
 
   pub terms_end : (u : List Token) (ts : List Term) → SpellsTerms u ts → (f : Front) (s : Option ℚ) (x : List ℕ) (fs : List Frame) → EndsArguments f s x fs u ts
   terms_end u ts (first v t h) f s x fs =
@@ -132,7 +154,13 @@ mutual
   terms_end u ts (more v w bs t h g) f s x fs =
       let k = terms_end v bs h f s x fs in
       let l = term_ends w t g (Call f s x bs ∷ fs) in
-      record { last = l.last; before = bs; term = t; ended = l.ended; all = refl;
+      record {
+        last = l.last;
+        before = bs;
+        term = t;
+        ended = l.ended;
+        all = refl;
         goes = goes_on v (word kinds.Comma ∷ w) (Part Nothing, Call f s x [] ∷ fs) (k.last, Call f s x k.before ∷ fs) (l.last, Call f s x bs ∷ fs) k.goes
-          (ap (λ o. (o and_then λ c. next_argument c (Call f s x k.before ∷ fs)) and_then λ c. run c w) k.ended
-            ∙ (ap (λ z. run (Part Nothing, Call f s x z ∷ fs) w) (sym k.all) ∙ l.goes)) }
+            (ap (λ o. (o and_then λ c. next_argument c (Call f s x k.before ∷ fs)) and_then λ c. run c w) k.ended
+            ∙ (ap (λ z. run (Part Nothing, Call f s x z ∷ fs) w) (sym k.all) ∙ l.goes));
+      }

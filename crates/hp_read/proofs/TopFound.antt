@@ -51,14 +51,14 @@ one_declaration u z p ds (problem a b w n es cs h g i) e k =
     let none : w ≡ [] = no_items w cs i e in
     let same_tokens : a ++ ((b ++ z) ++ w) ≡ (a ++ (b ++ w)) ++ z = rw none (simp (append_assoc, append-nil)) in
     subst (λ x. SpellsProblem x (problem_of n (es ++ ds) cs)) same_tokens
-      (problem a (b ++ z) w n (es ++ ds) cs h (grammar.more b z es ds g k) i)
+    (problem a (b ++ z) w n (es ++ ds) cs h (grammar.more b z es ds g k) i)
 
 pub one_item : (u z : List Token) (p : Problem) (d : Clause) → SpellsProblem u p → SpellsItem z d
     → SpellsProblem (u ++ z) (problem_of p.profile p.decls (p.clauses ++ d ∷ []))
 one_item u z p d (problem a b w n es cs h g i) k =
     let same_tokens : a ++ (b ++ (w ++ z)) ≡ (a ++ (b ++ w)) ++ z = simp append_assoc in
     subst (λ x. SpellsProblem x (problem_of n es (cs ++ d ∷ []))) same_tokens
-      (problem a b (w ++ z) n es (cs ++ d ∷ []) h g (grammar.more w z cs d i k))
+    (problem a b (w ++ z) n es (cs ++ d ∷ []) h g (grammar.more w z cs d i k))
 
 pub empty_problem : SpellsProblem [] (problem_of 1 [] [])
 empty_problem = problem [] [] [] 1 [] [] missing grammar.none grammar.none
@@ -74,10 +74,12 @@ pub record Inside {S : Type 0} (next : S → Token → Option S) (start : S) (p 
 inside_step : {S : Type 0} (next : S → Token → Option S) (start : S) (p : Problem) (opening : List Token) (s n : S) (u : List Token) (t : Token)
     → Inside next start p opening s u → next s t ≡ Some n → Inside next start p opening n (u and t)
 inside_step next start p opening s n u t h e = record {
-    before = h.before; inner = h.inner and t; made = h.made;
-    goes = runs_on next h.inner (t ∷ []) start s h.goes ∙ runs_one next s n t e;
-    split = ap (λ z. z and t) h.split ∙ append_assoc (h.before ++ opening) h.inner (t ∷ []);
-  }
+  before = h.before;
+  inner = h.inner and t;
+  made = h.made;
+  goes = runs_on next h.inner (t ∷ []) start s h.goes ∙ runs_one next s n t e;
+  split = ap (λ z. z and t) h.split ∙ append_assoc (h.before ++ opening) h.inner (t ∷ []);
+}
 
 inside_starts : {S : Type 0} (next : S → Token → Option S) (start : S) (p : Problem) (opening u : List Token) → SpellsProblem u p
     → Inside next start p opening start (u ++ opening)
@@ -116,13 +118,13 @@ item_is : (p : Problem) (k : Kind) (n : Progress) (u : List Token) → SpellsPro
 unfolding item_goes
 item_is p k n u h e =
     elim (choice (same k kinds.Clause) _ _ n e) [
-      inl g ↦ let z : at p ClauseWord ≡ n = cc in
-        subst (λ a. ProgressIs a (u and word k)) z (u, h, ap (λ l. u and word l) (same-is k _ g.0))
-    | inr g ↦ elim (choice (same k kinds.Query) _ _ n g.1) [
-        inl i ↦ let z : at p (Body true [] (begun First)) ≡ n = cc in
-          subst (λ a. ProgressIs a (u and word k)) z
+      | inl g ↦ let z : at p ClauseWord ≡ n = cc in
+          subst (λ a. ProgressIs a (u and word k)) z (u, h, ap (λ l. u and word l) (same-is k _ g.0))
+      | inr g ↦ elim (choice (same k kinds.Query) _ _ n g.1) [
+        | inl i ↦ let z : at p (Body true [] (begun First)) ≡ n = cc in
+            subst (λ a. ProgressIs a (u and word k)) z
             (word k ∷ [], (refl, ap (λ l. word l ∷ []) (same-is k _ i.0)), inside_starts body_step (begun First) p (word k ∷ []) u h)
-      | inr i ↦ absurd (cc)
+        | inr i ↦ absurd (cc)
       ]
     ]
 
@@ -130,14 +132,20 @@ between_is : (p : Problem) (k : Kind) (n : Progress) (u : List Token) → Spells
 unfolding between
 between_is p k n u h e =
     elim (choice (same k kinds.Const) _ _ n e) [
-      inl g ↦ declaration_is p p.clauses (Constants (c.Name [])) n (u and word k) refl g.1
-        (λ none. (none, subst (λ l. Inside constants_step (c.Name []) p (word kinds.Const ∷ []) (c.Name []) (u and word l)) (sym (same-is k _ g.0))
-          (inside_starts constants_step (c.Name []) p (word kinds.Const ∷ []) u h)))
-    | inr g ↦ elim (choice (same k kinds.Fun) _ _ n g.1) [
-        inl i ↦ declaration_is p p.clauses (Function f.Name) n (u and word k) refl i.1
-          (λ none. (none, subst (λ l. Inside function_step f.Name p (word kinds.Fun ∷ []) f.Name (u and word l)) (sym (same-is k _ i.0))
-            (inside_starts function_step f.Name p (word kinds.Fun ∷ []) u h)))
-      | inr i ↦ item_is p k n u h i.1
+      | inl g ↦ declaration_is p p.clauses (Constants (c.Name [])) n (u and word k) refl g.1
+          (λ none. (
+            none,
+            subst (λ l. Inside constants_step (c.Name []) p (word kinds.Const ∷ []) (c.Name []) (u and word l)) (sym (same-is k _ g.0))
+                (inside_starts constants_step (c.Name []) p (word kinds.Const ∷ []) u h),
+          ))
+      | inr g ↦ elim (choice (same k kinds.Fun) _ _ n g.1) [
+        | inl i ↦ declaration_is p p.clauses (Function f.Name) n (u and word k) refl i.1
+            (λ none. (
+              none,
+              subst (λ l. Inside function_step f.Name p (word kinds.Fun ∷ []) f.Name (u and word l)) (sym (same-is k _ i.0))
+                  (inside_starts function_step f.Name p (word kinds.Fun ∷ []) u h),
+            ))
+        | inr i ↦ item_is p k n u h i.1
       ]
     ]
 
@@ -145,9 +153,9 @@ start_is : (p : Problem) (t : Token) (n : Progress) (u : List Token) → StageIs
 unfolding at_start
 start_is p (word k) n u h e =
     elim (choice (same k kinds.Profile) _ _ n e) [
-      inl g ↦ let z : at p Profile ≡ n = cc in
-        subst (λ a. ProgressIs a (u and word k)) z (rw (h.0, same-is k _ g.0) refl, h.1)
-    | inr g ↦ between_is p k n u (rw (h.0, h.1) empty_problem) g.1
+      | inl g ↦ let z : at p Profile ≡ n = cc in
+          subst (λ a. ProgressIs a (u and word k)) z (rw (h.0, same-is k _ g.0) refl, h.1)
+      | inr g ↦ between_is p k n u (rw (h.0, h.1) empty_problem) g.1
     ]
 start_is p (name x) n u h e = absurd (cc)
 start_is p (numeral m) n u h e = absurd (cc)
@@ -158,20 +166,20 @@ profile_is p (word k) n u h e = absurd (cc)
 profile_is p (name x) n u h e = absurd (cc)
 profile_is p (numeral m) n u h e =
     elim (choice (m == 1) _ _ n e) [
-      inl g ↦ let z : at p Numbered ≡ n = cc in
-        let one : m ≡ 1 = eqb-true m 1 g.0 in
-        subst (λ a. ProgressIs a (u and numeral m)) z (rw (h.0, one) refl, h.1)
-    | inr g ↦ absurd (cc)
+      | inl g ↦ let z : at p Numbered ≡ n = cc in
+          let one : m ≡ 1 = eqb-true m 1 g.0 in
+          subst (λ a. ProgressIs a (u and numeral m)) z (rw (h.0, one) refl, h.1)
+      | inr g ↦ absurd (cc)
     ]
 
 numbered_is : (p : Problem) (t : Token) (n : Progress) (u : List Token) → StageIs p Numbered u → stage_step p Numbered t ≡ Some n → ProgressIs n (u and t)
 unfolding at_numbered
 numbered_is p t n u h e =
     elim (choice (ends_with kinds.Semicolon t) _ _ n e) [
-      inl g ↦ let z : at p Whole ≡ n = cc in
-        subst (λ a. ProgressIs a (u and t)) z
+      | inl g ↦ let z : at p Whole ≡ n = cc in
+          subst (λ a. ProgressIs a (u and t)) z
           (rw (h.0, h.1, ends_with-is _ t g.0) (problem (word kinds.Profile ∷ numeral 1 ∷ word kinds.Semicolon ∷ []) [] [] 1 [] [] given grammar.none grammar.none))
-    | inr g ↦ absurd (cc)
+      | inr g ↦ absurd (cc)
     ]
 
 whole_is : (p : Problem) (t : Token) (n : Progress) (u : List Token) → SpellsProblem u p → at_whole p t ≡ Some n → ProgressIs n (u and t)
@@ -184,58 +192,60 @@ constants_are : (p : Problem) (a : ConstantsState) (t : Token) (n : Progress) (u
 unfolding constants_stage
 constants_are p a t n u h e =
     elim (choice (ends_with kinds.Semicolon t) _ _ n e) [
-      inl g ↦ let b = bound (constants_end a) (λ ds. Some (with_declarations p ds)) n g.1 in
-        let z : with_declarations p b.0 ≡ n = cc (b.2) in
-        let k = h.1 in
-        subst (λ x. ProgressIs x (u and t)) z
+      | inl g ↦ let b = bound (constants_end a) (λ ds. Some (with_declarations p ds)) n g.1 in
+          let z : with_declarations p b.0 ≡ n = cc (b.2) in
+          let k = h.1 in
+          subst (λ x. ProgressIs x (u and t)) z
           (rw (k.split, ends_with-is _ t g.0) (simp append_assoc
-            (one_declaration k.before _ p b.0 k.made h.0
-              (constants k.inner b.0 (inside_ends constants_step constants_end (c.Name []) SpellsConstants constants_read p _ a u b.0 k b.1)))))
-    | inr g ↦ let b = bound (constants_step a t) (λ d. Some (at p (Constants d))) n g.1 in
-        let z : at p (Constants b.0) ≡ n = cc (b.2) in
-        subst (λ x. ProgressIs x (u and t)) z (h.0, inside_step constants_step _ p _ a b.0 u t h.1 b.1)
+          (one_declaration k.before _ p b.0 k.made h.0
+          (constants k.inner b.0 (inside_ends constants_step constants_end (c.Name []) SpellsConstants constants_read p _ a u b.0 k b.1)))))
+      | inr g ↦ let b = bound (constants_step a t) (λ d. Some (at p (Constants d))) n g.1 in
+          let z : at p (Constants b.0) ≡ n = cc (b.2) in
+          subst (λ x. ProgressIs x (u and t)) z (h.0, inside_step constants_step _ p _ a b.0 u t h.1 b.1)
     ]
 
 function_is : (p : Problem) (a : FunctionState) (t : Token) (n : Progress) (u : List Token) → StageIs p (Function a) u → stage_step p (Function a) t ≡ Some n → ProgressIs n (u and t)
 unfolding function_stage
 function_is p a t n u h e =
     elim (choice (ends_with kinds.Semicolon t) _ _ n e) [
-      inl g ↦ let b = bound (function_end a) (λ d. Some (with_declarations p (d ∷ []))) n g.1 in
-        let z : with_declarations p (b.0 ∷ []) ≡ n = cc (b.2) in
-        let k = h.1 in
-        subst (λ x. ProgressIs x (u and t)) z
+      | inl g ↦ let b = bound (function_end a) (λ d. Some (with_declarations p (d ∷ []))) n g.1 in
+          let z : with_declarations p (b.0 ∷ []) ≡ n = cc (b.2) in
+          let k = h.1 in
+          subst (λ x. ProgressIs x (u and t)) z
           (rw (k.split, ends_with-is _ t g.0) (simp append_assoc
-            (one_declaration k.before _ p (b.0 ∷ []) k.made h.0
-              (function k.inner b.0 (inside_ends function_step function_end f.Name SpellsFunction function_read p _ a u b.0 k b.1)))))
-    | inr g ↦ let b = bound (function_step a t) (λ d. Some (at p (Function d))) n g.1 in
-        let z : at p (Function b.0) ≡ n = cc (b.2) in
-        subst (λ x. ProgressIs x (u and t)) z (h.0, inside_step function_step _ p _ a b.0 u t h.1 b.1)
+          (one_declaration k.before _ p (b.0 ∷ []) k.made h.0
+          (function k.inner b.0 (inside_ends function_step function_end f.Name SpellsFunction function_read p _ a u b.0 k b.1)))))
+      | inr g ↦ let b = bound (function_step a t) (λ d. Some (at p (Function d))) n g.1 in
+          let z : at p (Function b.0) ≡ n = cc (b.2) in
+          subst (λ x. ProgressIs x (u and t)) z (h.0, inside_step function_step _ p _ a b.0 u t h.1 b.1)
     ]
 
 clause_is : (p : Problem) (t : Token) (n : Progress) (u : List Token) → StageIs p ClauseWord u → stage_step p ClauseWord t ≡ Some n → ProgressIs n (u and t)
 unfolding at_clause
 clause_is p t n u h e =
     elim (choice (ends_with kinds.OpenSquare t) _ _ n e) [
-      inl g ↦ let z : at p (Variables v.First) ≡ n = cc in
-        subst (λ a. ProgressIs a (u and t)) z
+      | inl g ↦ let z : at p (Variables v.First) ≡ n = cc in
+          subst (λ a. ProgressIs a (u and t)) z
           (rw (h.2, ends_with-is _ t g.0, append_assoc) (inside_starts variables_step v.First p (word kinds.Clause ∷ word kinds.OpenSquare ∷ []) h.0 h.1))
-    | inr g ↦ absurd (cc)
+      | inr g ↦ absurd (cc)
     ]
 
 variables_are : (p : Problem) (a : VariablesState) (t : Token) (n : Progress) (u : List Token) → StageIs p (Variables a) u → stage_step p (Variables a) t ≡ Some n → ProgressIs n (u and t)
 unfolding variables_stage
 variables_are p a t n u h e =
     elim (choice (ends_with kinds.CloseSquare t) _ _ n e) [
-      inl g ↦ let b = bound (variables_end a) (λ vs. Some (at p (Body false vs (begun First)))) n g.1 in
-        let z : at p (Body false b.0 (begun First)) ≡ n = cc (b.2) in
-        let opening : List Token = word kinds.Clause ∷ word kinds.OpenSquare ∷ h.inner ++ (word kinds.CloseSquare ∷ []) in
-        let tokens : h.before ++ opening ≡ u and t = rw (h.split, ends_with-is _ t g.0) (simp append_assoc) in
-        subst (λ x. ProgressIs x (u and t)) z
-          (opening, (h.inner, inside_ends variables_step variables_end v.First SpellsVariables variables_read p _ a u b.0 h b.1, refl),
-            subst (λ x. Inside body_step (begun First) p opening (begun First) x) tokens (inside_starts body_step (begun First) p opening h.before h.made))
-    | inr g ↦ let b = bound (variables_step a t) (λ w. Some (at p (Variables w))) n g.1 in
-        let z : at p (Variables b.0) ≡ n = cc (b.2) in
-        subst (λ x. ProgressIs x (u and t)) z (inside_step variables_step _ p _ a b.0 u t h b.1)
+      | inl g ↦ let b = bound (variables_end a) (λ vs. Some (at p (Body false vs (begun First)))) n g.1 in
+          let z : at p (Body false b.0 (begun First)) ≡ n = cc (b.2) in
+          let opening : List Token = word kinds.Clause ∷ word kinds.OpenSquare ∷ h.inner ++ (word kinds.CloseSquare ∷ []) in
+          let tokens : h.before ++ opening ≡ u and t = rw (h.split, ends_with-is _ t g.0) (simp append_assoc) in
+          subst (λ x. ProgressIs x (u and t)) z (
+            opening,
+            (h.inner, inside_ends variables_step variables_end v.First SpellsVariables variables_read p _ a u b.0 h b.1, refl),
+            subst (λ x. Inside body_step (begun First) p opening (begun First) x) tokens (inside_starts body_step (begun First) p opening h.before h.made),
+          )
+      | inr g ↦ let b = bound (variables_step a t) (λ w. Some (at p (Variables w))) n g.1 in
+          let z : at p (Variables b.0) ≡ n = cc (b.2) in
+          subst (λ x. ProgressIs x (u and t)) z (inside_step variables_step _ p _ a b.0 u t h b.1)
     ]
 
 -- a body, behind what stands before it, is an item
@@ -249,16 +259,16 @@ body_stage_is : (p : Problem) (q : Bool) (vs : List Var) (a : BodyState) (t : To
 unfolding body_stage
 body_stage_is p q vs a t n u h e =
     elim (choice (ends_with kinds.Semicolon t) _ _ n e) [
-      inl g ↦ let b = bound (body_end a) (λ r. Some (with_item p (clause_of q vs r.0 r.1))) n g.1 in
-        let z : with_item p (clause_of q vs b.0.0 b.0.1) ≡ n = cc (b.2) in
-        let k = h.2 in
-        subst (λ x. ProgressIs x (u and t)) z
+      | inl g ↦ let b = bound (body_end a) (λ r. Some (with_item p (clause_of q vs r.0 r.1))) n g.1 in
+          let z : with_item p (clause_of q vs b.0.0 b.0.1) ≡ n = cc (b.2) in
+          let k = h.2 in
+          subst (λ x. ProgressIs x (u and t)) z
           (rw (k.split, ends_with-is _ t g.0) (simp append_assoc
-            (one_item k.before _ p _ k.made
-              (whole_item q vs h.0 k.inner b.0.0 b.0.1 h.1 (inside_ends body_step body_end (begun First) SpellsPair bodies_read p _ a u b.0 k b.1)))))
-    | inr g ↦ let b = bound (body_step a t) (λ d. Some (at p (Body q vs d))) n g.1 in
-        let z : at p (Body q vs b.0) ≡ n = cc (b.2) in
-        subst (λ x. ProgressIs x (u and t)) z (h.0, h.1, inside_step body_step _ p _ a b.0 u t h.2 b.1)
+          (one_item k.before _ p _ k.made
+          (whole_item q vs h.0 k.inner b.0.0 b.0.1 h.1 (inside_ends body_step body_end (begun First) SpellsPair bodies_read p _ a u b.0 k b.1)))))
+      | inr g ↦ let b = bound (body_step a t) (λ d. Some (at p (Body q vs d))) n g.1 in
+          let z : at p (Body q vs b.0) ≡ n = cc (b.2) in
+          subst (λ x. ProgressIs x (u and t)) z (h.0, h.1, inside_step body_step _ p _ a b.0 u t h.2 b.1)
     ]
 
 stage_is : (p : Problem) (s : Stage) (t : Token) (n : Progress) (u : List Token) → StageIs p s u → stage_step p s t ≡ Some n → ProgressIs n (u and t)

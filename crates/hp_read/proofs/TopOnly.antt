@@ -84,7 +84,7 @@ layer_read : {S P : Type 0} (next : S → Token → Option S) (accept : S → Op
 layer_read next accept into close whole l u w s r e =
     let b = bound (runs next s u) accept r e in
     runs_on top_step u (word close ∷ w) (into s) (into b.0) (lift next top_step into l.goes u s b.0 b.1)
-      ∙ ap (λ o. o and_then λ n. runs top_step n w) (l.ends b.0 r b.2)
+    ∙ ap (λ o. o and_then λ n. runs top_step n w) (l.ends b.0 r b.2)
 
 goes_with : (b : Bool) (x y : Option Progress) (n : Progress) → b ≡ false → y ≡ Some n → (if b then x else y) ≡ Some n
 goes_with true x y n g e = absurd (cc)
@@ -93,23 +93,23 @@ goes_with false x y n g e = e
 constants_layer : (p : Problem) → Layer constants_step constants_end (λ a. at p (Constants a)) kinds.Semicolon (with_declarations p)
 unfolding same constants_stage
 constants_layer p = record {
-    goes = λ s n t e. goes_with (ends_with kinds.Semicolon t) _ _ _ (goes_inside constants_step kinds.Semicolon s n t (constants_close s) e) (ap (λ o. o and_then λ d. Some (at p (Constants d))) e);
-    ends = λ s r e. ap (λ o. o and_then λ ds. Some (with_declarations p ds)) e;
-  }
+  goes = λ s n t e. goes_with (ends_with kinds.Semicolon t) _ _ _ (goes_inside constants_step kinds.Semicolon s n t (constants_close s) e) (ap (λ o. o and_then λ d. Some (at p (Constants d))) e);
+  ends = λ s r e. ap (λ o. o and_then λ ds. Some (with_declarations p ds)) e;
+}
 
 function_layer : (p : Problem) → Layer function_step function_end (λ a. at p (Function a)) kinds.Semicolon (λ d. with_declarations p (d ∷ []))
 unfolding same function_stage
 function_layer p = record {
-    goes = λ s n t e. goes_with (ends_with kinds.Semicolon t) _ _ _ (goes_inside function_step kinds.Semicolon s n t (function_closes s) e) (ap (λ o. o and_then λ d. Some (at p (Function d))) e);
-    ends = λ s r e. ap (λ o. o and_then λ d. Some (with_declarations p (d ∷ []))) e;
-  }
+  goes = λ s n t e. goes_with (ends_with kinds.Semicolon t) _ _ _ (goes_inside function_step kinds.Semicolon s n t (function_closes s) e) (ap (λ o. o and_then λ d. Some (at p (Function d))) e);
+  ends = λ s r e. ap (λ o. o and_then λ d. Some (with_declarations p (d ∷ []))) e;
+}
 
 variables_layer : (p : Problem) → Layer variables_step variables_end (λ a. at p (Variables a)) kinds.CloseSquare (λ vs. at p (Body false vs (begun First)))
 unfolding same variables_stage
 variables_layer p = record {
-    goes = λ s n t e. goes_with (ends_with kinds.CloseSquare t) _ _ _ (goes_inside variables_step kinds.CloseSquare s n t (variables_close s) e) (ap (λ o. o and_then λ d. Some (at p (Variables d))) e);
-    ends = λ s r e. ap (λ o. o and_then λ vs. Some (at p (Body false vs (begun First)))) e;
-  }
+  goes = λ s n t e. goes_with (ends_with kinds.CloseSquare t) _ _ _ (goes_inside variables_step kinds.CloseSquare s n t (variables_close s) e) (ap (λ o. o and_then λ d. Some (at p (Variables d))) e);
+  ends = λ s r e. ap (λ o. o and_then λ vs. Some (at p (Body false vs (begun First)))) e;
+}
 
 abbrev pub item_of : Problem → Bool → List Var → List Atom × List Atom → Progress
 item_of p q vs r = with_item p (clause_of q vs r.0 r.1)
@@ -117,9 +117,9 @@ item_of p q vs r = with_item p (clause_of q vs r.0 r.1)
 body_layer : (p : Problem) (q : Bool) (vs : List Var) → Layer body_step body_end (λ b. at p (Body q vs b)) kinds.Semicolon (item_of p q vs)
 unfolding same body_stage
 body_layer p q vs = record {
-    goes = λ s n t e. goes_with (ends_with kinds.Semicolon t) _ _ _ (goes_inside body_step kinds.Semicolon s n t (body_closes s) e) (ap (λ o. o and_then λ d. Some (at p (Body q vs d))) e);
-    ends = λ s r e. ap (λ o. o and_then λ k. Some (item_of p q vs k)) e;
-  }
+  goes = λ s n t e. goes_with (ends_with kinds.Semicolon t) _ _ _ (goes_inside body_step kinds.Semicolon s n t (body_closes s) e) (ap (λ o. o and_then λ d. Some (at p (Body q vs d))) e);
+  ends = λ s r e. ap (λ o. o and_then λ k. Some (item_of p q vs k)) e;
+}
 
 -- where a declaration or an item may begin
 pub record Opens (s : Stage) : Type 0 where
@@ -148,21 +148,21 @@ declaration_goes : (s : Stage) (n : ℕ) (ds es : List Decl) (u : List Token) �
 unfolding same between item_goes
 declaration_goes s n ds es u o (constants w fs h) =
     opened s (problem_of n ds []) kinds.Const (w ++ word kinds.Semicolon ∷ []) o refl
-      ∙ layer_read constants_step constants_end _ kinds.Semicolon _ (constants_layer (problem_of n ds [])) w [] (c.Name []) fs (constants_read.only w fs h)
+    ∙ layer_read constants_step constants_end _ kinds.Semicolon _ (constants_layer (problem_of n ds [])) w [] (c.Name []) fs (constants_read.only w fs h)
 declaration_goes s n ds es u o (function w d h) =
     opened s (problem_of n ds []) kinds.Fun (w ++ word kinds.Semicolon ∷ []) o refl
-      ∙ layer_read function_step function_end _ kinds.Semicolon _ (function_layer (problem_of n ds [])) w [] f.Name d (function_read.only w d h)
+    ∙ layer_read function_step function_end _ kinds.Semicolon _ (function_layer (problem_of n ds [])) w [] f.Name d (function_read.only w d h)
 
 item_goes_on : (s : Stage) (p : Problem) (d : Clause) (u : List Token) → Opens s → SpellsItem u d → runs top_step (at p s) u ≡ Some (with_item p d)
 unfolding same between item_goes at_clause
 item_goes_on s p d u o (clause w z vs g h k b) =
     let rest : List Token = z ++ word kinds.Semicolon ∷ [] in
     opened s p kinds.Clause (word kinds.OpenSquare ∷ w ++ (word kinds.CloseSquare ∷ rest)) o refl
-      ∙ (layer_read variables_step variables_end _ kinds.CloseSquare _ (variables_layer p) w rest v.First vs (variables_read.only w vs k)
-      ∙ layer_read body_step body_end _ kinds.Semicolon _ (body_layer p false vs) z [] (begun First) (g, h) (bodies_read.only z (g, h) b))
+    ∙ (layer_read variables_step variables_end _ kinds.CloseSquare _ (variables_layer p) w rest v.First vs (variables_read.only w vs k)
+    ∙ layer_read body_step body_end _ kinds.Semicolon _ (body_layer p false vs) z [] (begun First) (g, h) (bodies_read.only z (g, h) b))
 item_goes_on s p d u o (query w g h b) =
     opened s p kinds.Query (w ++ word kinds.Semicolon ∷ []) o refl
-      ∙ layer_read body_step body_end _ kinds.Semicolon _ (body_layer p true []) w [] (begun First) (g, h) (bodies_read.only w (g, h) b)
+    ∙ layer_read body_step body_end _ kinds.Semicolon _ (body_layer p true []) w [] (begun First) (g, h) (bodies_read.only w (g, h) b)
 
 -- a stage at which the text may end, behind these tokens
 pub record Reaches (from : Progress) (u : List Token) (p : Problem) : Type 0 where
@@ -180,24 +180,30 @@ declarations_reached : (from : Progress) (a u : List Token) (n : ℕ) (ds : List
 declarations_reached from a u n ds r grammar.none = record { stage = r.stage; opens = r.opens; goes = rw append-nil r.goes }
 declarations_reached from a u n ds r (grammar.more w z es ks h g) =
     let l = declarations_reached from a w n es r h in
-    record { stage = Whole; opens = whole_opens;
+    record {
+      stage = Whole;
+      opens = whole_opens;
       goes = ap (runs top_step from) (sym (append_assoc a w z))
-        ∙ (runs_on top_step (a ++ w) z from (at (problem_of n es []) l.stage) l.goes ∙ declaration_goes l.stage n es ks z l.opens g) }
+          ∙ (runs_on top_step (a ++ w) z from (at (problem_of n es []) l.stage) l.goes ∙ declaration_goes l.stage n es ks z l.opens g);
+    }
 
 items_reached : (from : Progress) (a u : List Token) (n : ℕ) (ds : List Decl) (cs : List Clause) → Reaches from a (problem_of n ds []) → SpellsItems u cs
     → Reaches from (a ++ u) (problem_of n ds cs)
 items_reached from a u n ds cs r grammar.none = record { stage = r.stage; opens = r.opens; goes = rw append-nil r.goes }
 items_reached from a u n ds cs r (grammar.more w z es d h g) =
     let l = items_reached from a w n ds es r h in
-    record { stage = Whole; opens = whole_opens;
+    record {
+      stage = Whole;
+      opens = whole_opens;
       goes = ap (runs top_step from) (sym (append_assoc a w z))
-        ∙ (runs_on top_step (a ++ w) z from (at (problem_of n ds es) l.stage) l.goes ∙ item_goes_on l.stage (problem_of n ds es) d z l.opens g) }
+          ∙ (runs_on top_step (a ++ w) z from (at (problem_of n ds es) l.stage) l.goes ∙ item_goes_on l.stage (problem_of n ds es) d z l.opens g);
+    }
 
 problem_only : (u : List Token) (p : Problem) → SpellsProblem u p → result_of top_step top_end started u ≡ Some p
 problem_only u p (problem a b w n ds cs h g i) =
     let l = items_reached started (a ++ b) w n ds cs (declarations_reached started a b n ds (profile_reached a n h) g) i in
     ap (λ z. result_of top_step top_end started z) (sym (append_assoc a b w))
-      ∙ (ap (λ o. o and_then top_end) l.goes ∙ l.opens.ends (problem_of n ds cs))
+    ∙ (ap (λ o. o and_then top_end) l.goes ∙ l.opens.ends (problem_of n ds cs))
 
 -- tokens that end the text
 pub record Ends (s : Progress) : Type 0 where
@@ -210,10 +216,11 @@ ends_behind : {S P : Type 0} (next : S → Token → Option S) (accept : S → O
     → Layer next accept into close whole → AreTokens (word close ∷ []) → (s : S) (u : List Token) (r : P) → AreTokens u → result_of next accept s u ≡ Some r
     → Ends (whole r) → Ends (into s)
 ends_behind next accept into close whole l k s u r h e n = record {
-    tokens = u ++ word close ∷ n.tokens; problem = n.problem;
-    real = are_both u (word close ∷ n.tokens) h (k.0, n.real);
-    result = ap (λ o. o and_then top_end) (layer_read next accept into close whole l u n.tokens s r e) ∙ n.result;
-  }
+  tokens = u ++ word close ∷ n.tokens;
+  problem = n.problem;
+  real = are_both u (word close ∷ n.tokens) h (k.0, n.real);
+  result = ap (λ o. o and_then top_end) (layer_read next accept into close whole l u n.tokens s r e) ∙ n.result;
+}
 
 whole_ends : (p : Problem) → Ends (at p Whole)
 whole_ends p = record { tokens = []; problem = p; real = tt; result = refl }
@@ -227,8 +234,12 @@ variables_ending p a = let k = variables_read.ends a in
     ends_behind variables_step variables_end (λ z. at p (Variables z)) kinds.CloseSquare _ (variables_layer p) (refl, tt) a k.0 k.1 k.2 k.3 (body_ends p false k.1 (begun First))
 
 one_before : (s n : Progress) (t : Token) → AreTokens (t ∷ []) → top_step s t ≡ Some n → Ends n → Ends s
-one_before s n t h e k = record { tokens = t ∷ k.tokens; problem = k.problem; real = (h.0, k.real);
-    result = ap (λ o. (o and_then λ m. runs top_step m k.tokens) and_then top_end) e ∙ k.result }
+one_before s n t h e k = record {
+  tokens = t ∷ k.tokens;
+  problem = k.problem;
+  real = (h.0, k.real);
+  result = ap (λ o. (o and_then λ m. runs top_step m k.tokens) and_then top_end) e ∙ k.result;
+}
 
 stage_ends : (p : Problem) (s : Stage) → Ends (at p s)
 unfolding same at_profile at_numbered at_clause
@@ -246,7 +257,7 @@ stage_ends p (Body q vs b) = body_ends p q vs b
 
 pub problems_read : Reads top_step top_end started SpellsProblem
 problems_read = record {
-    found = problem_found;
-    only = problem_only;
-    ends = λ s. let k = stage_ends s.made s.stage in (k.tokens, k.problem, k.real, k.result);
-  }
+  found = problem_found;
+  only = problem_only;
+  ends = λ s. let k = stage_ends s.made s.stage in (k.tokens, k.problem, k.real, k.result);
+}

@@ -25,12 +25,12 @@ constants_of xs s = map (λ x. Const x s) xs
 -- name { "," name } ":" sort
 pub data SpellsConstants : List Token → List Decl → Type 0 where
   constants : (u v : List Token) (xs : List (List ℕ)) (s : Sort) → Separated SpellsName kinds.Comma u xs → SpellsSort v s
-    → SpellsConstants (u ++ word kinds.Colon ∷ v) (constants_of xs s)
+      → SpellsConstants (u ++ word kinds.Colon ∷ v) (constants_of xs s)
 
 -- name "(" sort { "," sort } ")" ":" sort "level" numeral
 pub data SpellsFunction : List Token → Decl → Type 0 where
   function : (x : List ℕ) (u v : List Token) (ss : List Sort) (s : Sort) (n : ℕ) → Separated SpellsSort kinds.Comma u ss → SpellsSort v s
-    → SpellsFunction (name x ∷ word kinds.OpenRound ∷ u ++ (word kinds.CloseRound ∷ word kinds.Colon ∷ v ++ (word kinds.Level ∷ numeral n ∷ []))) (Fun x ss s n)
+      → SpellsFunction (name x ∷ word kinds.OpenRound ∷ u ++ (word kinds.CloseRound ∷ word kinds.Colon ∷ v ++ (word kinds.Level ∷ numeral n ∷ []))) (Fun x ss s n)
 
 abbrev pub variable_of : List ℕ → Sort → Var
 variable_of x s = record { name = x; sort = s }

@@ -21,9 +21,9 @@ clause_of q vs g h = record { query = q; vars = vs; guard = g; head = h }
 -- item = "clause" "[" [ var { "," var } ] "]" body ";" | "query" body ";"
 pub data SpellsItem : List Token → Clause → Type 0 where
   clause : (u v : List Token) (vs : List Var) (g h : List Atom) → SpellsVariables u vs → SpellsBody v g h
-    → SpellsItem (word kinds.Clause ∷ word kinds.OpenSquare ∷ u ++ (word kinds.CloseSquare ∷ v ++ word kinds.Semicolon ∷ [])) (clause_of false vs g h)
+      → SpellsItem (word kinds.Clause ∷ word kinds.OpenSquare ∷ u ++ (word kinds.CloseSquare ∷ v ++ word kinds.Semicolon ∷ [])) (clause_of false vs g h)
   query : (u : List Token) (g h : List Atom) → SpellsBody u g h
-    → SpellsItem (word kinds.Query ∷ u ++ word kinds.Semicolon ∷ []) (clause_of true [] g h)
+      → SpellsItem (word kinds.Query ∷ u ++ word kinds.Semicolon ∷ []) (clause_of true [] g h)
 
 -- [ "profile" one ";" ], and 1 where it is missing
 pub data SpellsProfile : List Token → ℕ → Type 0 where
@@ -44,4 +44,4 @@ problem_of n ds cs = record { profile = n; decls = ds; clauses = cs }
 -- problem = [ "profile" one ";" ] { decl } { item }
 pub data SpellsProblem : List Token → Problem → Type 0 where
   problem : (u v w : List Token) (n : ℕ) (ds : List Decl) (cs : List Clause) → SpellsProfile u n → SpellsDeclarations v ds → SpellsItems w cs
-    → SpellsProblem (u ++ (v ++ w)) (problem_of n ds cs)
+      → SpellsProblem (u ++ (v ++ w)) (problem_of n ds cs)

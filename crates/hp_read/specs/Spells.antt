@@ -67,6 +67,10 @@ IsFault bytes (LongNumeral o) = IsNoToken bytes (LongNumeral o)
 IsFault bytes (Deep o) = IsPastLimit bytes o
 IsFault bytes Memory = Unit {0}
 
+-- the bytes spell a problem, or have a fault
+abbrev pub HasMeaning : List ℕ → Type 0
+HasMeaning bytes = ((p : Problem) × Spells bytes p) ⊎ ((e : ReadErr) × IsFault bytes e × (e ≢ Memory))
+
 -- what the reader has come to behind some tokens of the bytes
 pub record IsReading (bytes : List ℕ) (place : ℕ) (progress : Progress) (counts : Counts) : Type 0 where
   pub tokens : List Placed

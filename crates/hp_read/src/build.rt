@@ -66,7 +66,11 @@ fn product_term(alloc: Global, factor: Frac, inner: Term) -> Result<Term, AllocE
 }
 
 /// The part with the factor.
-pub(crate) fn scale_by(alloc: Global, number: Option<Frac>, factor: Term) -> Result<Term, AllocError>
+pub(crate) fn scale_by(
+    alloc: Global,
+    number: Option<Frac>,
+    factor: Term,
+) -> Result<Term, AllocError>
     ensures { IfOk result (λ t. t ≡ scaled number factor) }
 {
     match number {

@@ -117,7 +117,11 @@ impl Counts {
         if same(kind, Kind::Plus) {
             self.with_sign()
         } else if same(kind, Kind::Minus) {
-            if self.ended { self.with_sign() } else { Some(self) }
+            if self.ended {
+                self.with_sign()
+            } else {
+                Some(self)
+            }
         } else {
             self.other(kind)
         }

@@ -1,4 +1,5 @@
-//! The reader of problems.
+//! The reader of problems: from the bytes of a text to its syntax tree, or to the first fault of the text.
+//! The grammar, what bytes spell, and what their fault is, `specs/` says, apart from the reader.
 #![tactic(auto)]
 
 mod body;
@@ -14,16 +15,9 @@ mod state;
 mod stop;
 mod symbol;
 mod term;
+#[cfg(test)]
+mod tests;
 
-pub use body::{Body, Place, Side};
-pub use counts::Counts;
 pub use fault::ReadErr;
-pub use laws::{spells_one_problem, spells_without_fault};
-pub use lines::{Constants, Function, Variables};
+pub use laws::{spells_one_problem, spells_or_has_fault, spells_without_fault};
 pub use reader::read;
-pub use stack::Stack;
-pub use stage::{Progress, Stage};
-pub use state::{Frame, Front, Mode};
-pub use stop::Stop;
-pub use symbol::Symbol;
-pub use term::TermState;

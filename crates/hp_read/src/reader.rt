@@ -64,12 +64,7 @@ fn read_tokens(alloc: Global, bytes: &[u8]) -> Result<Problem, ReadErr>
 }
 
 /// The reader behind one more token of the bytes.
-fn advance(
-    alloc: Global,
-    bytes: &[u8],
-    reading: Reading,
-    token: Token,
-) -> Result<Reading, ReadErr>
+fn advance(alloc: Global, bytes: &[u8], reading: Reading, token: Token) -> Result<Reading, ReadErr>
     requires reading { IsReading bytes.now reading.place reading.progress reading.counts }
     requires next { next_from bytes.now reading.place ≡ Ok token }
     requires some { token.kind ≢ End }
@@ -80,15 +75,12 @@ fn advance(
 {
     let symbol = symbol_at(alloc, bytes, token)?;
     let counts = reading.counts.count(&symbol);
+    let offset = token.start;
     match reading.progress.step(alloc, symbol) {
-        Err(Stop::Refused) => Err(ReadErr::Syntax {
-            offset: token.start,
-        }),
+        Err(Stop::Refused) => Err(ReadErr::Syntax { offset }),
         Err(Stop::Memory) => Err(ReadErr::Memory),
         Ok(progress) => match counts {
-            None => Err(ReadErr::Deep {
-                offset: token.start,
-            }),
+            None => Err(ReadErr::Deep { offset }),
             Some(counts) => Ok(Reading {
                 progress,
                 counts,
