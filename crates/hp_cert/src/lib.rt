@@ -11,3 +11,6 @@ mod refutation;
 pub use ground::{def_text, line_text};
 pub use listing::entries;
 pub use refutation::{Entry, Refutation, body, write};
+
+#[cfg(test)]
+mod tests;

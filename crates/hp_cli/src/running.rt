@@ -130,7 +130,7 @@ fn outcome<S: Source, K: Sink>(
 /// - 4: a write failed. A part from the front of the text is written.
 /// - 12: memory was wanting. Nothing is written, or a part from the front where the sink wanted it.
 ///
-/// The text is built whole before the first write.
+/// Writing begins when the whole answer is there.
 pub fn run<S: Source, K: Sink>(alloc: Global, words: &[String], source: &mut S, sink: &mut K) -> u8
     // No other status is answered.
     ensures statuses { (s : Status) × (result ≡ code s) }
