@@ -15,6 +15,7 @@ use std::alloc::Global;
 /// breaks one, and which is the first rule that it breaks: a name that is there already (`Twice`), a level outside 1 to 16
 /// (`Level`), a name that is not declared (`Unknown`), a wrong number of arguments (`Arity`), a term of a wrong sort
 /// (`Mismatch`). `Memory` comes where memory is short.
+/// Asks for fewer than 2^28 declarations and clauses together.
 #[tactic(auto, using(crate::proofs::Walking::count_constants, crate::proofs::Walking::count_functions))]
 pub fn check(alloc: Global, p: &Problem) -> Result<Symbols, SortErr>
     requires { length p.now.decls + length p.now.clauses < 2 ^ 28 }

@@ -6,19 +6,28 @@ ghost use Rattle.hp_sorts.specs.Limits.{passed, limit, has_many_variables, has_m
 
 use hp_ast::{Clause, Decl, Limit, Problem, Which};
 
+/// The most clauses of a text.
+const MOST_CLAUSES: u64 = 2_000;
+
+/// The most variables of a clause.
+const MOST_VARIABLES: u64 = 6;
+
+/// The most arguments of a declared function.
+const MOST_ARGUMENTS: u64 = 4;
+
 /// The first limit of a text that the problem passes: 2,000 clauses, then 6 variables of a clause, then 4 arguments of
 /// a declared function. `None` where it passes none. The `item` is 0. Takes no memory.
 pub fn counts(p: &Problem) -> Option<Limit>
     ensures { result ≡ passed p.now }
 {
-    if p.clauses.len() > 2000 {
-        return Some(limit(Which::Clauses, 2000));
+    if p.clauses.len() as u64 > MOST_CLAUSES {
+        return Some(limit(Which::Clauses, MOST_CLAUSES));
     }
     if some_has_many_variables(p.clauses.as_slice()) {
-        return Some(limit(Which::Variables, 6));
+        return Some(limit(Which::Variables, MOST_VARIABLES));
     }
     if some_has_many_arguments(p.decls.as_slice()) {
-        return Some(limit(Which::Arguments, 4));
+        return Some(limit(Which::Arguments, MOST_ARGUMENTS));
     }
     None
 }
@@ -38,7 +47,9 @@ fn limit(which: Which, most: u64) -> Limit
 fn some_has_many_variables(clauses: &[Clause]) -> bool
     ensures { result ≡ list_any has_many_variables clauses.now }
 {
-    clauses.iter().any(|clause| clause.vars.len() > 6)
+    clauses
+        .iter()
+        .any(|clause| clause.vars.len() as u64 > MOST_VARIABLES)
 }
 
 /// Whether a function is declared with more than 4 arguments.
@@ -54,6 +65,6 @@ fn has_many_arguments(decl: &Decl) -> bool
 {
     match decl {
         Decl::Const { .. } => false,
-        Decl::Fun { args, .. } => args.len() > 4,
+        Decl::Fun { args, .. } => args.len() as u64 > MOST_ARGUMENTS,
     }
 }

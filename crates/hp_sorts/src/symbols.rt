@@ -27,7 +27,7 @@ impl Model for Symbols {
 
 impl Symbols {
     /// The symbols of these tables, which have fewer than 2^32 constants and as few functions.
-    pub fn new(tables: Tables) -> Symbols
+    pub(crate) fn new(tables: Tables) -> Symbols
         requires constants { length tables.constants.names < 2 ^ 32 }
         requires functions { length tables.functions < 2 ^ 32 }
         ensures { result ≡ tables }

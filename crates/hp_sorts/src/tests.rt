@@ -86,55 +86,63 @@ fn checked(alloc: Global, p: &Problem) -> Result<Symbols, SortErr> {
 }
 
 /// What is wrong with a small problem.
-fn fault(alloc: Global, p: Problem) -> Option<SortErr> {
-    match checked(alloc, &p) {
+fn fault(alloc: Global, p: &Problem) -> Option<SortErr> {
+    match checked(alloc, p) {
         Ok(_) => None,
         Err(err) => Some(err),
     }
 }
 
-#[test]
-fn first_faults(rt: HostRuntime) -> Result<(), Fail> {
-    let alloc = rt.alloc();
+/// `const c: num; const c: idx;`
+fn twice(alloc: Global) -> Result<Problem, AllocError> {
     let c = constant(alloc, b"c", Sort::Num)?;
     let again = constant(alloc, b"c", Sort::Idx)?;
-    let p = problem(alloc, Some(c), Some(again), None)?;
-    assert_eq!(rt; fault(alloc, p), Some(SortErr::Twice { item: 2 }));
-
-    let zero = Term::Number(Frac::new(0, 1));
-    let unknown = query(alloc, name(alloc, b"c")?, Cmp::Lt, zero)?;
-    let p = problem(alloc, None, None, Some(unknown))?;
-    assert_eq!(rt; fault(alloc, p), Some(SortErr::Unknown { item: 1 }));
-
-    let p = problem(alloc, Some(function(alloc, 17)?), None, None)?;
-    assert_eq!(rt; fault(alloc, p), Some(SortErr::Level { item: 1 }));
-
-    let zero = Term::Number(Frac::new(0, 1));
-    let pair = query(alloc, application(alloc, 2)?, Cmp::Eq, zero)?;
-    let p = problem(alloc, Some(function(alloc, 1)?), None, Some(pair))?;
-    assert_eq!(rt; fault(alloc, p), Some(SortErr::Arity { item: 2 }));
-
-    let u = constant(alloc, b"u", Sort::Ptr)?;
-    let order = query(alloc, name(alloc, b"u")?, Cmp::Lt, Term::Null)?;
-    let p = problem(alloc, Some(u), None, Some(order))?;
-    assert_eq!(rt; fault(alloc, p), Some(SortErr::Mismatch { item: 2 }));
-    Ok(())
+    problem(alloc, Some(c), Some(again), None)
 }
 
-#[test]
-fn symbols_and_counts(rt: HostRuntime) -> Result<(), Fail> {
-    let alloc = rt.alloc();
-    let c = constant(alloc, b"c", Sort::Num)?;
-    let sound = query(alloc, application(alloc, 1)?, Cmp::Lt, name(alloc, b"c")?)?;
-    let p = problem(alloc, Some(function(alloc, 16)?), Some(c), Some(sound))?;
-    assert_eq!(rt; counts(&p), None);
-    let symbols = checked(alloc, &p)?;
-    assert_eq!(rt; symbols.constant(&Text::from_slice(alloc, b"c")?), Some(0));
-    assert_eq!(rt; symbols.function(&Text::from_slice(alloc, b"f")?), Some(0));
-    assert_eq!(rt; symbols.constant(&Text::from_slice(alloc, b"f")?), None);
+/// `query c < 0;`
+fn unknown(alloc: Global) -> Result<Problem, AllocError> {
+    let c = name(alloc, b"c")?;
+    let clause = query(alloc, c, Cmp::Lt, Term::Number(Frac::new(0, 1)))?;
+    problem(alloc, None, None, Some(clause))
+}
 
+/// `fun f(num): num level 17;`
+fn high(alloc: Global) -> Result<Problem, AllocError> {
+    let f = function(alloc, 17)?;
+    problem(alloc, Some(f), None, None)
+}
+
+/// `fun f(num): num level 1; query f(1, 1) = 0;`
+fn pair(alloc: Global) -> Result<Problem, AllocError> {
+    let f = function(alloc, 1)?;
+    let left = application(alloc, 2)?;
+    let clause = query(alloc, left, Cmp::Eq, Term::Number(Frac::new(0, 1)))?;
+    problem(alloc, Some(f), None, Some(clause))
+}
+
+/// `const u: ptr; query u < null;`
+fn order(alloc: Global) -> Result<Problem, AllocError> {
+    let u = constant(alloc, b"u", Sort::Ptr)?;
+    let left = name(alloc, b"u")?;
+    let clause = query(alloc, left, Cmp::Lt, Term::Null)?;
+    problem(alloc, Some(u), None, Some(clause))
+}
+
+/// `fun f(num): num level 16; const c: num; query f(1) < c;`
+fn sound(alloc: Global) -> Result<Problem, AllocError> {
+    let f = function(alloc, 16)?;
+    let c = constant(alloc, b"c", Sort::Num)?;
+    let left = application(alloc, 1)?;
+    let right = name(alloc, b"c")?;
+    let clause = query(alloc, left, Cmp::Lt, right)?;
+    problem(alloc, Some(f), Some(c), Some(clause))
+}
+
+/// A clause with so many variables, and nothing else.
+fn variables(alloc: Global, count: usize) -> Result<Problem, AllocError> {
     let mut vars = List::new(alloc);
-    for _ in 0..7 {
+    for _ in 0..count {
         vars.push(Var {
             name: Text::from_slice(alloc, b"x")?,
             sort: Sort::Num,
@@ -146,12 +154,60 @@ fn symbols_and_counts(rt: HostRuntime) -> Result<(), Fail> {
         guard: List::new(alloc),
         head: List::new(alloc),
     };
-    let p = problem(alloc, None, None, Some(clause))?;
-    let limit = Limit {
+    problem(alloc, None, None, Some(clause))
+}
+
+/// The places of a name among the constants and among the functions of the sound problem.
+fn places(alloc: Global, name: &[u8]) -> Result<(Option<u32>, Option<u32>), SortErr> {
+    let name = Text::from_slice(alloc, name)?;
+    let p = sound(alloc)?;
+    let symbols = checked(alloc, &p)?;
+    Ok((symbols.constant(&name), symbols.function(&name)))
+}
+
+#[test]
+fn first_faults(rt: HostRuntime) -> Result<(), Fail> {
+    let alloc = rt.alloc();
+    assert_eq!(rt;
+        fault(alloc, &twice(alloc)?),
+        Some(SortErr::Twice { item: 2 })
+    );
+    assert_eq!(rt;
+        fault(alloc, &unknown(alloc)?),
+        Some(SortErr::Unknown { item: 1 })
+    );
+    assert_eq!(rt;
+        fault(alloc, &high(alloc)?),
+        Some(SortErr::Level { item: 1 })
+    );
+    assert_eq!(rt;
+        fault(alloc, &pair(alloc)?),
+        Some(SortErr::Arity { item: 2 })
+    );
+    assert_eq!(rt;
+        fault(alloc, &order(alloc)?),
+        Some(SortErr::Mismatch { item: 2 })
+    );
+    Ok(())
+}
+
+#[test]
+fn places_of_names(rt: HostRuntime) -> Result<(), Fail> {
+    let alloc = rt.alloc();
+    assert_eq!(rt; places(alloc, b"c")?, (Some(0), None));
+    assert_eq!(rt; places(alloc, b"f")?, (None, Some(0)));
+    Ok(())
+}
+
+#[test]
+fn limits(rt: HostRuntime) -> Result<(), Fail> {
+    let alloc = rt.alloc();
+    let seven = Limit {
         which: Which::Variables,
         most: 6,
         item: 0,
     };
-    assert_eq!(rt; counts(&p), Some(limit));
+    assert_eq!(rt; counts(&variables(alloc, 6)?), None);
+    assert_eq!(rt; counts(&variables(alloc, 7)?), Some(seven));
     Ok(())
 }
