@@ -1,5 +1,5 @@
 -- Tests and places in a list of names, seen through the values that hold them.
-use Rattle.std.proofs.Common.{◌≡◌, ℕ, suc, ◌+◌, ◌||◌, ◌++◌, List, [], ◌∷◌, Bool, true, false, not, cond, map, length, nat_lt, Option, Some, None, refl, sym, ap, ◌∙◌}
+use Rattle.std.proofs.Common.{◌≡◌, ℕ, suc, ◌+◌, ◌||◌, ◌++◌, List, [], ◌∷◌, Bool, false, not, cond, map, length, nat_lt, Some, None, refl, sym, ap, ◌∙◌}
 use Rattle.std.specs.Prelude.{position}
 use Rattle.std.specs.List.{list_any, prefix_len}
 use Rattle.std.specs.Str.{bytes_eq}

@@ -3,7 +3,6 @@
 use Rattle.std.specs.Prelude.{◌≡◌, ℕ, ◌+◌, List, [], ◌∷◌, ◌++◌, Bool, ◌&&◌, ◌||◌, not, if◌then◌else◌, Option, Some, None, Result, Ok, Err, length, nat_lt}
 use Rattle.std.specs.List.{list_all}
 use Rattle.std.specs.Option.{option_or}
-use Rattle.hp_ast.specs.declared.problem.Atom.{Atom}
 use Rattle.hp_ast.specs.declared.problem.Var.{Var}
 use Rattle.hp_ast.specs.declared.problem.Clause.{Clause}
 use Rattle.hp_ast.specs.declared.problem.Decl.{Decl}
@@ -70,7 +69,7 @@ clauses_fault s before (clause ∷ clauses) = option_or (clause_fault s (before 
 abbrev pub sort_fault : Problem → Option SortErr
 sort_fault p = option_or (decls_fault no_symbols 0 p.decls) (clauses_fault (symbols p.decls) (length p.decls) p.clauses)
 
--- an error is the fault, unless memory is short; there is no fault where there is none
+-- an error says what the fault is, or that memory is short
 abbrev pub IsCause : Option SortErr → SortErr → Type 0
 IsCause fault (Twice item) = fault ≡ Some (Twice item)
 IsCause fault (Level item) = fault ≡ Some (Level item)
@@ -79,6 +78,7 @@ IsCause fault (Arity item) = fault ≡ Some (Arity item)
 IsCause fault (Mismatch item) = fault ≡ Some (Mismatch item)
 IsCause fault Memory = Unit {0}
 
+-- a value comes only where there is no fault, and an error only where it is the fault
 abbrev pub Answers : {X : Type 0} → Option SortErr → (X → Type 0) → Result X SortErr → Type 0
 Answers fault P (Ok value) = (fault ≡ None) × P value
 Answers fault P (Err err) = IsCause fault err

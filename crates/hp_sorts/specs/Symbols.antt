@@ -1,6 +1,6 @@
 -- What the declarations of a problem declare: constants with their sorts and functions with their signatures, each in
 -- the order of their declarations; and the sorts of the variables of a clause.
-use Rattle.std.specs.Prelude.{ℕ, List, [], ◌∷◌, ◌++◌, Bool, ◌||◌, Option, map}
+use Rattle.std.specs.Prelude.{List, [], ◌∷◌, ◌++◌, Bool, ◌||◌, Option, map}
 use Rattle.std.specs.Option.{option_or}
 use Rattle.hp_ast.specs.declared.problem.Sort.{Sort}
 use Rattle.hp_ast.specs.declared.problem.Var.{Var}

@@ -1,4 +1,4 @@
-use Rattle.std.proofs.Common.{◌≡◌, ◌++◌, [], ◌∷◌, ◌∙◌, false}
+use Rattle.std.proofs.Common.{◌++◌, [], ◌∷◌, ◌∙◌}
 use Rattle.hp_sorts.specs.Numbered.{is_among}
 use Rattle.hp_sorts.proofs.Numbering.{inserted-map}
 use Rattle.hp_sorts.proofs.names.NameIndex.insert.Goals as goal
