@@ -1,0 +1,27 @@
+-- The limits of a problem's text: its clauses, the variables of each clause, the arguments of each function.
+use Rattle.std.specs.Prelude.{ℕ, Bool, false, if◌then◌else◌, Option, Some, None, length, nat_lt}
+use Rattle.std.specs.List.{list_any}
+use Rattle.hp_ast.specs.declared.limit.Limit.{Limit}
+use Rattle.hp_ast.specs.declared.limit.Which.{Which}
+use Rattle.hp_ast.specs.declared.limit.Which.TheVariants.{Clauses, Variables, Arguments}
+use Rattle.hp_ast.specs.declared.problem.Clause.{Clause}
+use Rattle.hp_ast.specs.declared.problem.Decl.{Decl}
+use Rattle.hp_ast.specs.declared.problem.Decl.TheVariants.{Const, Fun}
+use Rattle.hp_ast.specs.declared.problem.Problem.{Problem}
+
+abbrev pub limit : Which → ℕ → Limit
+limit which most = record { which = which; most = most; item = 0 }
+
+abbrev pub has_many_variables : Clause → Bool
+has_many_variables clause = nat_lt 6 (length clause.vars)
+
+abbrev pub has_many_arguments : Decl → Bool
+has_many_arguments (Const name sort) = false
+has_many_arguments (Fun name args value level) = nat_lt 4 (length args)
+
+-- the first limit that is passed
+abbrev pub passed : Problem → Option Limit
+passed p =
+    if nat_lt 2000 (length p.clauses) then Some (limit Clauses 2000)
+    else (if list_any has_many_variables p.clauses then Some (limit Variables 6)
+    else (if list_any has_many_arguments p.decls then Some (limit Arguments 4) else None))
