@@ -35,14 +35,6 @@ struct Spelled {
     right: Part,
 }
 
-const fn name(name: u8) -> Part {
-    Part {
-        name,
-        plus: 0,
-        minus: 0,
-    }
-}
-
 fn number(n: u32) -> Term {
     Term::Number(Frac::new(n as i128, 1))
 }
@@ -181,7 +173,7 @@ fn seen(
     Ok(answered(alloc, &p, want))
 }
 
-fn spelled(left: Part, cmp: Cmp, right: Part) -> Spelled {
+fn relates(left: Part, cmp: Cmp, right: Part) -> Spelled {
     Spelled { left, cmp, right }
 }
 
@@ -203,9 +195,23 @@ fn equal(left: Option<Name>, right: Option<Name>, bound: i128) -> IdxLit {
     }
 }
 
-const I: Part = name(b'i');
+const I: Part = Part {
+    name: b'i',
+    plus: 0,
+    minus: 0,
+};
 
-const J: Part = name(b'j');
+const J: Part = Part {
+    name: b'j',
+    plus: 0,
+    minus: 0,
+};
+
+const UNKNOWN: Part = Part {
+    name: b'k',
+    plus: 0,
+    minus: 0,
+};
 
 const THREE: Part = Part {
     name: 0,
@@ -231,12 +237,12 @@ fn atoms_of_the_head(rt: HostRuntime) {
     };
     let apart = [at_most(I_NAME, J_NAME, -1), at_most(J_NAME, I_NAME, -1)];
     let cases: [(Spelled, &[IdxLit]); 6] = [
-        (spelled(I, Cmp::Le, THREE), &[at_most(I_NAME, None, 3)]),
-        (spelled(I, Cmp::Lt, THREE), &[at_most(I_NAME, None, 2)]),
-        (spelled(I, Cmp::Eq, next), &[equal(None, None, 1)]),
-        (spelled(I, Cmp::Ne, J), &apart),
-        (spelled(I, Cmp::Ge, other), &[at_most(J_NAME, I_NAME, -2)]),
-        (spelled(THREE, Cmp::Gt, J), &[at_most(J_NAME, None, 2)]),
+        (relates(I, Cmp::Le, THREE), &[at_most(I_NAME, None, 3)]),
+        (relates(I, Cmp::Lt, THREE), &[at_most(I_NAME, None, 2)]),
+        (relates(I, Cmp::Eq, next), &[equal(None, None, 1)]),
+        (relates(I, Cmp::Ne, J), &apart),
+        (relates(I, Cmp::Ge, other), &[at_most(J_NAME, I_NAME, -2)]),
+        (relates(THREE, Cmp::Gt, J), &[at_most(J_NAME, None, 2)]),
     ];
     for (atom, want) in cases {
         assert_eq!(rt; seen(rt.alloc(), &[], &[atom], want), Ok(Answer::Same));
@@ -245,7 +251,7 @@ fn atoms_of_the_head(rt: HostRuntime) {
 
 #[test]
 fn atoms_of_the_guard(rt: HostRuntime) {
-    let head = spelled(I, Cmp::Le, THREE);
+    let head = relates(I, Cmp::Le, THREE);
     let last = at_most(I_NAME, None, 3);
     let below = at_most(I_NAME, J_NAME, -1);
     let above = at_most(J_NAME, I_NAME, -1);
@@ -259,7 +265,7 @@ fn atoms_of_the_guard(rt: HostRuntime) {
     ];
     for (cmp, want) in cases {
         assert_eq!(rt;
-            seen(rt.alloc(), &[spelled(I, cmp, J)], &[head], want),
+            seen(rt.alloc(), &[relates(I, cmp, J)], &[head], want),
             Ok(Answer::Same)
         );
     }
@@ -267,10 +273,7 @@ fn atoms_of_the_guard(rt: HostRuntime) {
 
 #[test]
 fn other_problems(rt: HostRuntime) {
-    let cases = [
-        spelled(THREE, Cmp::Lt, THREE),
-        spelled(I, Cmp::Lt, name(b'k')),
-    ];
+    let cases = [relates(THREE, Cmp::Lt, THREE), relates(I, Cmp::Lt, UNKNOWN)];
     for atom in cases {
         assert_eq!(rt; seen(rt.alloc(), &[], &[atom], &[]), Ok(Answer::Other));
     }
