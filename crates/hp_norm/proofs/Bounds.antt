@@ -1,10 +1,9 @@
 -- Bounds are small where the numbers of an atom are.
-use Rattle.std.proofs.Common.{◌≡◌, ◌<◌, ◌≤◌, ℕ, ◌+◌, ◌^◌, ◌-ℤ◌, List, [], ◌∷◌, Option, Some, None, arith}
+use Rattle.std.proofs.Common.{◌<◌, ℕ, ◌+◌, ◌^◌, ◌-ℤ◌, List, [], ◌∷◌, Option, Some, None, arith}
 use Rattle.std.specs.List.{All}
 use Rattle.std.proofs.lemmas.List.Elements.{All-nil, All-cons}
 use Rattle.hp_base.specs.declared.literal.Rel.{Rel}
 use Rattle.hp_base.specs.declared.literal.Rel.TheVariants as rel
-use Rattle.hp_base.specs.declared.literal.Lit.{Lit}
 use Rattle.hp_base.specs.declared.literal.Lit.TheVariants.{Idx}
 use Rattle.hp_ast.specs.declared.term.Term.{Term}
 use Rattle.hp_ast.specs.declared.problem.Atom.{Atom}

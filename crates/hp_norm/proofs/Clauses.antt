@@ -1,5 +1,5 @@
 -- A clause over index terms is true in a structure exactly where one of its literals is true.
-use Rattle.std.proofs.Common.{◌≡◌, ℕ, Bool, true, false, not, ◌||◌, ◌&&◌, List, [], ◌∷◌, ◌++◌, Option, Some, None, map, refl, sym, ap, subst, ◌∙◌, inl, inr, ◌⊎◌}
+use Rattle.std.proofs.Common.{◌≡◌, ℕ, Bool, true, false, not, ◌||◌, ◌&&◌, List, [], ◌∷◌, ◌++◌, Option, Some, None, map, refl, sym, ap, ◌∙◌, inl, inr, ◌⊎◌}
 use Rattle.std.specs.List.{All, flat_map}
 use Rattle.std.proofs.lemmas.List.Elements.{All-head, All-tail}
 use Rattle.hp_math.specs.Rational.{ℚ, is_whole}
@@ -7,7 +7,7 @@ use Rattle.hp_ast.specs.declared.problem.Atom.{Atom}
 use Rattle.hp_ast.specs.declared.problem.Clause.{Clause}
 use Rattle.hp_ast.specs.declared.problem.Cmp.{Cmp}
 use Rattle.hp_base.specs.declared.literal.Lit.{Lit}
-use Rattle.hp_base.specs.Truth.{Values, name_value, IsTrueAt, LineIsTrue}
+use Rattle.hp_base.specs.Truth.{Values, name_value, LineIsTrue}
 use Rattle.hp_model.specs.declared.structure.ConstValue.{ConstValue}
 use Rattle.hp_model.specs.Value.{Functions, constant, value, compares, atom_is_true, all_true, one_true}
 use Rattle.hp_norm.specs.declared.collect.Form.{Form}
@@ -17,7 +17,6 @@ use Rattle.hp_norm.specs.Literals.{atom_literals, are_index_sides, clause_litera
 use Rattle.hp_norm.specs.Ground.{IsIndexClause}
 use Rattle.hp_norm.proofs.Semantics.{entry_name, entry_value, term_value}
 use Rattle.hp_norm.proofs.Truth.{compares-negated, literals_true, literals_say}
-use Rattle.hp_norm.proofs.Texts.{not_both}
 
 or_right : (a : Bool) {b : Bool} → b ≡ true → (a || b) ≡ true
 or_right true e = refl

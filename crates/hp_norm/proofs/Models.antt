@@ -1,10 +1,9 @@
 -- The structures of an index problem and the values at which its ground lines are true.
-use Rattle.std.proofs.Common.{◌≡◌, ℕ, zero, suc, ◌<◌, ◌+◌, Bool, true, false, not, ◌||◌, pos, List, [], ◌∷◌, ◌++◌, map, refl, sym, ap, subst, ◌∙◌, arith}
+use Rattle.std.proofs.Common.{◌≡◌, ℕ, zero, suc, ◌+◌, Bool, true, not, ◌||◌, pos, List, [], ◌∷◌, ◌++◌, map, refl, sym, subst, arith}
 use Rattle.std.specs.Prelude.{IsTrue}
 use Rattle.std.specs.List.{All}
 use Rattle.std.proofs.lemmas.List.Elements.{All-nil, All-cons, All-head, All-tail}
-use Rattle.hp_math.specs.Rational.{ℚ, whole, is_whole}
-use Rattle.hp_ast.specs.declared.problem.Sort.{Sort}
+use Rattle.hp_math.specs.Rational.{whole, is_whole}
 use Rattle.hp_ast.specs.declared.problem.Sort.TheVariants as sort
 use Rattle.hp_ast.specs.declared.problem.Clause.{Clause}
 use Rattle.hp_ast.specs.declared.problem.Var.{Var}
@@ -21,10 +20,9 @@ use Rattle.hp_model.specs.declared.structure.ConstValue.{ConstValue}
 use Rattle.hp_model.specs.declared.structure.Structure.{Structure}
 use Rattle.hp_model.specs.Value.{Names, constant, functions_of, all_true, one_true}
 use Rattle.hp_model.specs.WellFormed.{constants, ConstantsFit, is_of_sort}
-use Rattle.hp_model.specs.Satisfies.{Holds, Satisfies, with_variables}
-use Rattle.hp_norm.specs.Literals.{clause_literals}
-use Rattle.hp_norm.specs.Ground.{IsGroundOf, IsIndexClause, IsIndexDecl, decl_name, declared, index_constant, index_decl, line_of, lines_from}
-use Rattle.hp_norm.specs.Laws.{AreTrueLines, StructuresGiveValues, ValuesGiveAStructure, const_values, structure_of}
+use Rattle.hp_model.specs.Satisfies.{Holds, with_variables}
+use Rattle.hp_norm.specs.Ground.{IsIndexClause, IsIndexDecl, decl_name, declared, index_constant, index_decl, line_of, lines_from}
+use Rattle.hp_norm.specs.Laws.{StructuresGiveValues, ValuesGiveAStructure, const_values, structure_of}
 use Rattle.hp_norm.proofs.Numbers.{whole-whole}
 use Rattle.hp_norm.proofs.Semantics.{entry_name, entry_value}
 use Rattle.hp_norm.proofs.Clauses.{line_is_true, clause_is_true}

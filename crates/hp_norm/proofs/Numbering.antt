@@ -1,7 +1,7 @@
 -- Tests and places in a list of names, seen through the values that hold them.
-use Rattle.std.proofs.Common.{◌≡◌, ℕ, suc, ◌+◌, ◌||◌, ◌++◌, List, [], ◌∷◌, Bool, true, false, not, cond, map, length, nat_lt, Option, Some, None, refl, sym, ap, ◌∙◌, arith, Result, Ok}
+use Rattle.std.proofs.Common.{◌≡◌, ℕ, suc, ◌+◌, ◌||◌, ◌++◌, List, [], ◌∷◌, Bool, true, false, not, cond, map, length, nat_lt, Some, None, refl, ap, ◌∙◌}
 use Rattle.std.specs.Prelude.{position}
-use Rattle.std.specs.List.{list_any, position_or_len, prefix_len}
+use Rattle.std.specs.List.{list_any, prefix_len}
 use Rattle.std.specs.Str.{bytes_eq}
 use Rattle.indexmap.specs.IndexSet.{insert_key}
 use Rattle.hp_norm.specs.Numbered.{is_among, Added}

@@ -1,13 +1,12 @@
 -- Comparisons of fractions as bounds on their difference.
-use Rattle.std.proofs.Common.{◌≡◌, ℕ, zero, suc, ◌<◌, ◌≤◌, Bool, true, false, ◌&&◌, ℤ, pos, neg_ℤ, ◌+ℤ◌, ◌-ℤ◌, ◌*ℤ◌, nat_eq, ◌≤ℤ◌, ◌<ℤ◌, refl, sym, ap, subst, ◌∙◌, arith, inl, inr, ◌⊎◌}
+use Rattle.std.proofs.Common.{◌≡◌, Bool, true, false, ◌&&◌, ℤ, pos, neg_ℤ, ◌+ℤ◌, ◌-ℤ◌, nat_eq, ◌≤ℤ◌, ◌<ℤ◌, refl, sym, ap, subst, ◌∙◌, arith}
 use Rattle.std.proofs.lemmas.Int.{ints}
 use Rattle.std.specs.Ordering.{int_eq}
 use Rattle.std.proofs.lemmas.Bool.{eqb-true, eq-eqb}
 use Rattle.std.proofs.lemmas.Bool.Decides.{Decides-int_eq}
 use Rattle.hp_math.specs.Rational.{ℚ, ratio, whole, ◌+ℚ◌, ◌-ℚ◌, neg_ℚ, ◌≤ℚ◌, ◌<ℚ◌, le_ℚ, lt_ℚ, eq_ℚ, is_whole}
-use Rattle.hp_math.proofs.Whole.{+ℤ-*ℤ}
 use Rattle.hp_math.proofs.Rational.{ratio-kept, ratio-parts, ratio-neg, ratio-+, ratio-≤, ratio-<, ratio-≤_out, ratio-<_out}
-use Rattle.hp_math.proofs.Field.{by_common2, at_one, fractions, whole_at, le_ℚ-true, le_ℚ-false, lt_ℚ-true, lt_ℚ-false, <ℚ_irrefl, ≤ℚ_refl}
+use Rattle.hp_math.proofs.Field.{by_common2, at_one, fractions, whole_at, le_ℚ-false, lt_ℚ-false, <ℚ_irrefl}
 
 pub is_true : (b : Bool) → (b ≡ false → ⊥) → b ≡ true
 is_true true h = refl

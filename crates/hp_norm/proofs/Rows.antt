@@ -1,12 +1,12 @@
 -- The names of the literals are constants, and all constants are of sort idx.
-use Rattle.std.proofs.Common.{◌≡◌, ℕ, zero, suc, ◌+◌, ◌<◌, Bool, true, false, cond, ℤ, neg_ℤ, List, [], ◌∷◌, ◌++◌, Option, Some, None, map, length, get_or, refl, sym, ap, subst, ◌∙◌, arith, slice_get}
+use Rattle.std.proofs.Common.{◌≡◌, ℕ, zero, suc, ◌+◌, ◌<◌, Bool, true, false, cond, ℤ, neg_ℤ, List, [], ◌∷◌, ◌++◌, Option, Some, None, map, length, get_or, refl, sym, ap, subst, ◌∙◌, arith}
 use Rattle.std.specs.List.{All, flat_map}
 use Rattle.std.proofs.lemmas.List.Elements.{All-nil, All-cons, All-head, All-tail, All-append}
 use Rattle.std.proofs.lemmas.List.Quantifiers.{position-Some}
 use Rattle.std.proofs.lemmas.Option.{slice_get-get_or}
 use Rattle.std.specs.Str.{bytes_eq}
 use Rattle.hp_math.specs.Rational.{ℚ, is_whole}
-use Rattle.hp_ast.specs.declared.term.Term.{Term, fold-Term, fold-roll-Term, ind-Term, roll-Term, map-Term}
+use Rattle.hp_ast.specs.declared.term.Term.{Term, fold-roll-Term, ind-Term, roll-Term, map-Term}
 use Rattle.hp_ast.specs.declared.term.Term.TheOpen.{Term-F}
 use Rattle.hp_ast.specs.declared.problem.Sort.{Sort}
 use Rattle.hp_ast.specs.declared.problem.Sort.TheVariants as sort
@@ -17,7 +17,6 @@ use Rattle.hp_ast.specs.declared.problem.Cmp.TheVariants.{Le, Lt, Eq, Ne, Ge, Gt
 use Rattle.hp_base.specs.declared.literal.Name.{Name}
 use Rattle.hp_base.specs.declared.literal.Rel.{Rel}
 use Rattle.hp_base.specs.declared.literal.Rel.TheVariants as rel
-use Rattle.hp_base.specs.declared.literal.Lit.{Lit}
 use Rattle.hp_base.specs.declared.literal.Lit.TheVariants.{Idx}
 use Rattle.hp_base.specs.declared.line.Line.{Line}
 use Rattle.hp_base.specs.declared.line.Def.{Def}
@@ -32,7 +31,7 @@ use Rattle.hp_norm.specs.declared.atoms.Side.TheVariants.{Guard, Head}
 use Rattle.hp_norm.specs.Numbered.{number}
 use Rattle.hp_norm.specs.Forms.{form_of, shape_form, shape_of, shape_step, shifted, plus_shape, minus_shape, neg_shape, number_shape, named_shape}
 use Rattle.hp_norm.specs.Literals.{atom_literals, cancel, clause_literals, compared, literals, sides_literals, taken, HasSmallBound}
-use Rattle.hp_norm.specs.Ground.{HasRows, IsIdxSide, IsRow, IsRowOver, index_constant, line_of, lines_from}
+use Rattle.hp_norm.specs.Ground.{HasRows, IsIdxSide, IsRow, index_constant, line_of, lines_from}
 use Rattle.hp_norm.specs.Answers.{HasSmallBounds}
 use Rattle.hp_norm.proofs.Semantics.{numbered}
 

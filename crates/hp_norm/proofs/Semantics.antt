@@ -1,38 +1,24 @@
 -- A clause is true in a structure exactly where one of its literals is true at the values of the constants.
-use Rattle.std.proofs.Common.{◌≡◌, ℕ, zero, suc, ◌<◌, ◌≤◌, ◌+◌, Bool, true, false, ◌||◌, ◌&&◌, not, cond, nat_eq, ℤ, pos, neg_ℤ, ◌+ℤ◌, ◌-ℤ◌, List, [], ◌∷◌, ◌++◌, Option, Some, None, map, length, get_or, refl, sym, ap, subst, ◌∙◌, arith, inl, inr, ◌⊎◌}
+use Rattle.std.proofs.Common.{◌≡◌, ℕ, zero, suc, ◌<◌, true, false, cond, ℤ, pos, neg_ℤ, ◌+ℤ◌, List, [], ◌∷◌, Option, Some, None, map, length, get_or, refl, sym, ap, subst, ◌∙◌, arith}
 use Rattle.std.specs.Prelude.{position, option_map}
 use Rattle.std.specs.Str.{bytes_eq}
-use Rattle.std.proofs.lemmas.Bool.{eqb-true}
 use Rattle.std.proofs.lemmas.List.{length-map}
 use Rattle.std.proofs.lemmas.List.Quantifiers.{position-Some}
-use Rattle.std.specs.List.{All, flat_map}
-use Rattle.std.proofs.lemmas.List.Elements.{All-nil, All-cons, All-head, All-tail}
-use Rattle.hp_math.specs.Rational.{ℚ, whole, ◌+ℚ◌, ◌-ℚ◌, neg_ℚ, ◌≤ℚ◌, ◌<ℚ◌, is_whole, le_ℚ, lt_ℚ, eq_ℚ}
-use Rattle.hp_math.proofs.Field.{+ℚ_zero, +ℚ_comm, +ℚ_assoc, +ℚ-neg_ℚ, ≤ℚ_refl, <ℚ_irrefl, le_ℚ-true, le_ℚ-false, lt_ℚ-true, lt_ℚ-false}
-use Rattle.hp_ast.specs.declared.term.Term.{Term, fold-Term, fold-roll-Term, ind-Term, roll-Term, map-Term}
+use Rattle.hp_math.specs.Rational.{ℚ, whole, ◌+ℚ◌, ◌-ℚ◌, neg_ℚ, is_whole}
+use Rattle.hp_math.proofs.Field.{+ℚ_zero, +ℚ_comm, +ℚ_assoc}
+use Rattle.hp_ast.specs.declared.term.Term.{Term, fold-roll-Term, ind-Term, roll-Term, map-Term}
 use Rattle.hp_ast.specs.declared.term.Term.TheOpen.{Term-F}
-use Rattle.hp_ast.specs.declared.problem.Atom.{Atom}
-use Rattle.hp_ast.specs.declared.problem.Cmp.{Cmp}
-use Rattle.hp_ast.specs.declared.problem.Cmp.TheVariants.{Le, Lt, Eq, Ne, Ge, Gt}
 use Rattle.hp_base.specs.declared.literal.Name.{Name}
-use Rattle.hp_base.specs.declared.literal.Rel.{Rel}
-use Rattle.hp_base.specs.declared.literal.Rel.TheVariants as rel
-use Rattle.hp_base.specs.declared.literal.IdxLit.{IdxLit}
-use Rattle.hp_base.specs.declared.literal.Lit.{Lit}
-use Rattle.hp_base.specs.declared.literal.Lit.TheVariants.{Idx}
-use Rattle.hp_base.specs.Truth.{Values, name_value, optional_value, IdxIsTrue, IsTrueAt, LineIsTrue}
+use Rattle.hp_base.specs.Truth.{Values, name_value, optional_value}
 use Rattle.hp_model.specs.declared.structure.ConstValue.{ConstValue}
-use Rattle.hp_model.specs.Value.{Functions, Names, constant, value, value_step, compares, atom_is_true, all_true, one_true}
+use Rattle.hp_model.specs.Value.{Functions, constant, value, value_step}
 use Rattle.hp_norm.specs.declared.collect.Form.{Form}
 use Rattle.hp_norm.specs.declared.collect.Shape.{Shape}
 use Rattle.hp_norm.specs.declared.collect.Shape.TheVariants.{Number, Sum, Other}
-use Rattle.hp_norm.specs.declared.atoms.Side.TheVariants.{Guard, Head}
 use Rattle.hp_norm.specs.Numbered.{number}
 use Rattle.hp_norm.specs.Forms.{above, form_of, shape_form, shape_of, shape_step, shifted, plus_shape, minus_shape, neg_shape, number_shape, named_shape}
-use Rattle.hp_norm.specs.Literals.{bound_of, cancel, compared, is_exact, literals, negated, atom_literals, are_index_sides, sides_literals, IsIndexAtom}
 use Rattle.hp_norm.proofs.Texts.{apart_back, same_text, text_same}
-use Rattle.hp_norm.proofs.Numbers.{neg-whole, whole-+, whole-of, whole-whole, le_ℚ-from, lt_ℚ-from, eq_ℚ-from, eq_ℚ-true}
-use Rattle.hp_norm.proofs.Sides.{le-bound, bound-le, lt-bound, bound-lt, eq-bound, bound-eq}
+use Rattle.hp_norm.proofs.Numbers.{neg-whole, whole-+, whole-of}
 
 -- ---- a constant by its place
 abbrev pub entry_name : ConstValue → List ℕ

@@ -1,5 +1,5 @@
 -- What a term of each kind is from what its parts are, and how large its numbers can become.
-use Rattle.std.proofs.Common.{◌≡◌, ℕ, ◌+◌, ◌≤◌, ◌<◌, ◌^◌, Bool, true, false, cond, List, ℤ, pos, negsuc, neg_ℤ, ◌+ℤ◌, ◌-ℤ◌, ◌≤ℤ◌, unsigned_abs, Option, Some, None, refl, sym, ap, subst, ◌∙◌, arith}
+use Rattle.std.proofs.Common.{◌≡◌, ℕ, ◌+◌, ◌≤◌, ◌^◌, true, false, cond, List, ℤ, pos, negsuc, neg_ℤ, ◌+ℤ◌, ◌-ℤ◌, unsigned_abs, Option, Some, None, sym, ap, subst, ◌∙◌, arith}
 use Rattle.std.proofs.lemmas.Int.{ints}
 use Rattle.hp_math.specs.Rational.{ℚ, is_whole}
 use Rattle.hp_base.specs.declared.literal.Name.{Name}
@@ -8,11 +8,10 @@ use Rattle.hp_ast.specs.declared.term.Term.{Term, fold-Term, fold-roll-Term, ind
 use Rattle.hp_ast.specs.declared.term.Term.TheOpen.{Term-F}
 use Rattle.hp_ast.specs.declared.term.Term.TheViews.{Add, Sub, Neg}
 use Rattle.hp_ast.specs.declared.term.Term.TheVariants.{rolls-Number, rolls-Name, rolls-Add, rolls-Sub, rolls-Neg}
-use Rattle.hp_norm.specs.declared.collect.Form.{Form}
 use Rattle.hp_norm.specs.declared.collect.Shape.{Shape}
 use Rattle.hp_norm.specs.declared.collect.Shape.TheVariants.{Number, Sum, Other}
 use Rattle.hp_norm.specs.Numbered.{number}
-use Rattle.hp_norm.specs.Forms.{IsWithin, IsSmall, IsSmallShape, shape_of, shape_step, weight, weight_step, shifted, plus_shape, minus_shape, neg_shape, number_shape, named_shape}
+use Rattle.hp_norm.specs.Forms.{IsWithin, IsSmallShape, shape_of, shape_step, weight, weight_step, shifted, plus_shape, minus_shape, neg_shape, number_shape, named_shape}
 
 -- ---- one layer
 module _ (names : List (List ℕ)) where

@@ -1,6 +1,6 @@
 -- Comparisons of two constants, each with a whole number added to it, as bounds on their difference.
-use Rattle.std.proofs.Common.{◌≡◌, ℕ, ℤ, pos, neg_ℤ, ◌+ℤ◌, ◌-ℤ◌, true, refl, sym, ap, subst, ◌∙◌, arith}
-use Rattle.hp_math.specs.Rational.{ℚ, ratio, whole, ◌+ℚ◌, ◌-ℚ◌, ◌≤ℚ◌, ◌<ℚ◌, is_whole}
+use Rattle.std.proofs.Common.{◌≡◌, ℤ, pos, ◌-ℤ◌, true, sym, ap, subst, ◌∙◌, arith}
+use Rattle.hp_math.specs.Rational.{ℚ, whole, ◌+ℚ◌, ◌-ℚ◌, ◌≤ℚ◌, ◌<ℚ◌, is_whole}
 use Rattle.hp_math.proofs.Field.{by_common2, by_common3, at_one, fractions, +ℚ_assoc}
 use Rattle.hp_norm.proofs.Numbers.{whole-minus, le-difference, difference-le, lt-difference, difference-lt, eq-difference, difference-eq}
 

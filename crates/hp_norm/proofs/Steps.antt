@@ -1,8 +1,8 @@
 -- Literals, lines and names that are added one by one.
-use Rattle.std.proofs.Common.{◌≡◌, ◌<◌, ◌≤◌, ℕ, zero, suc, ◌+◌, ◌^◌, List, [], ◌∷◌, ◌++◌, ◌||◌, Bool, true, false, length, get_or, take, drop, map, Option, Some, None, refl, sym, ap, subst, ◌∙◌, append_assoc, append-nil, arith, MatchOption}
+use Rattle.std.proofs.Common.{◌≡◌, ◌<◌, ◌≤◌, ℕ, zero, suc, ◌+◌, ◌^◌, List, [], ◌∷◌, ◌++◌, ◌||◌, true, length, get_or, take, drop, Option, Some, None, refl, sym, ap, subst, ◌∙◌, append_assoc, append-nil, arith, MatchOption}
 use Rattle.std.specs.List.{All, flat_map}
 use Rattle.std.proofs.lemmas.List.{drop_more, take_more}
-use Rattle.std.proofs.lemmas.List.Elements.{All-nil, All-cons, All-head, All-tail, All-append, All-get_or}
+use Rattle.std.proofs.lemmas.List.Elements.{All-nil, All-cons, All-head, All-tail, All-append}
 use Rattle.std.proofs.lemmas.Grind.{flat_map-append}
 use Rattle.hp_base.specs.declared.literal.Lit.{Lit}
 use Rattle.hp_base.specs.declared.line.Line.{Line}
@@ -20,7 +20,7 @@ use Rattle.hp_ast.specs.declared.problem.Var.{Var}
 use Rattle.hp_norm.specs.declared.atoms.Step.{Step}
 use Rattle.hp_norm.specs.declared.atoms.Step.TheVariants.{Done, Other, Wide, Memory}
 use Rattle.hp_norm.specs.Forms.{IsSmallShape, form_of, shape_form, shape_of, weight}
-use Rattle.hp_norm.specs.Literals.{HasSmallBound, IsIndexAtom, are_index_sides, atom_literals, clause_literals, is_named, literals, sides_literals, taken}
+use Rattle.hp_norm.specs.Literals.{HasSmallBound, IsIndexAtom, atom_literals, clause_literals, is_named, literals, taken}
 use Rattle.hp_norm.specs.Ground.{IsIndexClause, line_of, lines_from}
 use Rattle.hp_norm.specs.Answers.{AtomPushed, AtomsPushed, HasSmallBounds, LineFound, Pushed, SidesPushed}
 use Rattle.hp_norm.proofs.Shapes.{too_heavy}

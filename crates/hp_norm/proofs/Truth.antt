@@ -1,5 +1,5 @@
 -- An atom over index terms is true at the values of the constants exactly where one of its literals is.
-use Rattle.std.proofs.Common.{◌≡◌, ℕ, Bool, true, false, not, cond, pos, ◌-ℤ◌, List, [], ◌∷◌, ◌++◌, Option, Some, None, refl, sym, ap, subst, ◌∙◌, inl, inr, ◌⊎◌}
+use Rattle.std.proofs.Common.{◌≡◌, ℕ, Bool, true, false, not, cond, pos, Option, Some, None, refl, sym, ap, subst, ◌∙◌, inl, inr, ◌⊎◌}
 use Rattle.std.proofs.lemmas.Bool.{eqb-true}
 use Rattle.hp_math.specs.Rational.{ℚ, whole, ◌-ℚ◌, ◌≤ℚ◌, ◌<ℚ◌, is_whole, le_ℚ, lt_ℚ, eq_ℚ}
 use Rattle.hp_math.proofs.Field.{+ℚ-neg_ℚ, ≤ℚ_refl, ≤ℚ_antisym, <ℚ_irrefl, le_ℚ-true, le_ℚ-false, lt_ℚ-true, lt_ℚ-false}
@@ -8,7 +8,6 @@ use Rattle.hp_ast.specs.declared.problem.Cmp.TheVariants.{Le, Lt, Eq, Ne, Ge, Gt
 use Rattle.hp_base.specs.declared.literal.Name.{Name}
 use Rattle.hp_base.specs.declared.literal.Rel.{Rel}
 use Rattle.hp_base.specs.declared.literal.Rel.TheVariants as rel
-use Rattle.hp_base.specs.declared.literal.Lit.{Lit}
 use Rattle.hp_base.specs.Truth.{Values, name_value, optional_value, Compares, IdxIsTrue, LineIsTrue}
 use Rattle.hp_model.specs.Value.{compares}
 use Rattle.hp_norm.specs.declared.collect.Form.{Form}

@@ -1,5 +1,5 @@
 -- Problems over index constants without variables, and their ground lines: one for each clause.
-use Rattle.std.specs.Prelude.{◌≡◌, ℕ, ◌+◌, List, [], ◌∷◌, map, Option, Some, None, slice_get, length}
+use Rattle.std.specs.Prelude.{◌≡◌, ℕ, ◌+◌, List, [], ◌∷◌, map, Option, Some, None, slice_get}
 use Rattle.std.specs.List.{All}
 use Rattle.hp_base.specs.declared.literal.Name.{Name}
 use Rattle.hp_base.specs.declared.literal.IdxLit.{IdxLit}

@@ -2,8 +2,7 @@ use Rattle.hp_base.specs.declared.literal.Rel.TheVariants.{Lt}
 use Rattle.hp_base.specs.declared.literal.Lit.TheVariants.{Idx}
 use Rattle.hp_norm.specs.Literals.{compared}
 use Rattle.hp_norm.specs.Answers.{Pushed}
-use Rattle.std.proofs.Common.{subst, List, [], ◌∷◌}
-use Rattle.hp_norm.specs.declared.atoms.Step.{Step}
+use Rattle.std.proofs.Common.{subst, [], ◌∷◌}
 use Rattle.hp_norm.proofs.Steps.{two_pushed}
 use Rattle.hp_norm.proofs.atoms.push_apart.Goals as goal
 

@@ -1,4 +1,4 @@
-use Rattle.std.proofs.Common.{◌≡◌, ◌∙◌, sym}
+use Rattle.std.proofs.Common.{◌∙◌, sym}
 use Rattle.hp_norm.specs.Forms.{shape_form}
 use Rattle.hp_norm.proofs.Steps.{sides_pushed}
 use Rattle.hp_norm.proofs.atoms.push_sides.Goals as goal

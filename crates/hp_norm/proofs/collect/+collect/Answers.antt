@@ -1,4 +1,4 @@
-use Rattle.std.proofs.Common.{◌≡◌, sym, ap, ◌∙◌}
+use Rattle.std.proofs.Common.{sym, ap, ◌∙◌}
 use Rattle.hp_norm.specs.Forms.{minus_shape, plus_shape, shape_of}
 use Rattle.hp_norm.proofs.Shapes.{shape-Add, shape-Sub}
 use Rattle.hp_norm.proofs.Steps.{shape_found}

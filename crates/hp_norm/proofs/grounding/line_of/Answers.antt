@@ -1,4 +1,4 @@
-use Rattle.std.proofs.Common.{[], List, subst, ◌∙◌, arith, length, ◌≡◌}
+use Rattle.std.proofs.Common.{[], List, subst, arith, length, ◌≡◌}
 use Rattle.hp_ast.specs.declared.problem.Atom.{Atom}
 use Rattle.hp_base.specs.declared.literal.Lit.{Lit}
 use Rattle.hp_norm.specs.Answers.{AtomsPushed}

@@ -1,8 +1,7 @@
-use Rattle.std.proofs.Common.{◌≡◌, ◌∙◌, ◌++◌, ◌∷◌, [], ◌+◌, List, sym, subst, arith}
+use Rattle.std.proofs.Common.{◌+◌, sym, subst, arith}
 use Rattle.std.proofs.lemmas.List.Elements.{All-get_or}
 use Rattle.hp_ast.specs.declared.problem.Clause.{Clause}
-use Rattle.hp_base.specs.declared.line.Line.{Line}
-use Rattle.hp_norm.specs.Ground.{IsLightClause, IsIndexClause, line_of}
+use Rattle.hp_norm.specs.Ground.{IsLightClause}
 use Rattle.hp_norm.specs.Answers.{LineFound}
 use Rattle.hp_norm.specs.declared.grounding.LineRead.TheVariants.{Read}
 use Rattle.hp_norm.proofs.Steps.{LinesSoFar, all_lines, line_more}

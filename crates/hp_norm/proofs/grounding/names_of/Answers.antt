@@ -1,5 +1,4 @@
 use Rattle.std.proofs.Common.{◌≡◌, ◌∙◌, ◌++◌, ◌+◌, ◌∷◌, [], List, ℕ, true, false, get_or, map, sym, ap, subst, arith}
-use Rattle.hp_ast.specs.declared.problem.Decl.{Decl}
 use Rattle.hp_base.specs.declared.names.Constant.{Constant}
 use Rattle.hp_norm.specs.Numbered.{Added, is_among}
 use Rattle.hp_norm.specs.Ground.{IsIndexDecl, decl_name, index_constant}

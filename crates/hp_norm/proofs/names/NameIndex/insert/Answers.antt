@@ -1,4 +1,4 @@
-use Rattle.std.proofs.Common.{sym, subst, List, ℕ, map}
+use Rattle.std.proofs.Common.{subst, List, ℕ, map}
 use Rattle.hp_norm.specs.Numbered.{Added}
 use Rattle.hp_norm.proofs.Numbering.{added-map}
 use Rattle.hp_norm.proofs.names.NameIndex.insert.Goals as goal
