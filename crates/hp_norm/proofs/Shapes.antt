@@ -3,11 +3,10 @@ use Rattle.std.proofs.Common.{◌≡◌, ℕ, ◌+◌, ◌≤◌, ◌^◌, true,
 use Rattle.std.proofs.lemmas.Int.{ints}
 use Rattle.hp_math.specs.Rational.{ℚ, is_whole}
 use Rattle.hp_base.specs.declared.literal.Name.{Name}
-use Rattle.hp_ast.specs.declared.term.Term as term
-use Rattle.hp_ast.specs.declared.term.Term.{Term, fold-Term, fold-roll-Term, ind-Term, roll-Term, map-Term}
+use Rattle.hp_ast.specs.declared.term.Term.{Term, fold-roll-Term, ind-Term, roll-Term, map-Term}
 use Rattle.hp_ast.specs.declared.term.Term.TheOpen.{Term-F}
-use Rattle.hp_ast.specs.declared.term.Term.TheViews.{Add, Sub, Neg}
-use Rattle.hp_ast.specs.declared.term.Term.TheVariants.{rolls-Number, rolls-Name, rolls-Add, rolls-Sub, rolls-Neg}
+use Rattle.hp_ast.specs.declared.term.Term.TheViews.{Add, Sub}
+use Rattle.hp_ast.specs.declared.term.Term.TheVariants.{rolls-Add, rolls-Sub}
 use Rattle.hp_norm.specs.declared.collect.Shape.{Shape}
 use Rattle.hp_norm.specs.declared.collect.Shape.TheVariants.{Number, Sum, Other}
 use Rattle.hp_norm.specs.Numbered.{number}
@@ -15,29 +14,11 @@ use Rattle.hp_norm.specs.Forms.{IsWithin, IsSmallShape, shape_of, shape_step, we
 
 -- ---- one layer
 module _ (names : List (List ℕ)) where
-  pub shape-Number : (q : ℚ) → shape_of names (term.Number q) ≡ number_shape q
-  shape-Number q = ap (shape_of names) (sym (rolls-Number q)) ∙ fold-roll-Term Shape (shape_step names) (Term-F.Number q)
-
-  pub shape-Name : (n : List ℕ) → shape_of names (term.Name n) ≡ named_shape (number names n)
-  shape-Name n = ap (shape_of names) (sym (rolls-Name n)) ∙ fold-roll-Term Shape (shape_step names) (Term-F.Name n)
-
   pub shape-Add : (a b : Term) → shape_of names (Add a b) ≡ plus_shape (shape_of names a) (shape_of names b)
   shape-Add a b = ap (shape_of names) (sym (rolls-Add a b)) ∙ fold-roll-Term Shape (shape_step names) (Term-F.Add a b)
 
   pub shape-Sub : (a b : Term) → shape_of names (Sub a b) ≡ minus_shape (shape_of names a) (shape_of names b)
   shape-Sub a b = ap (shape_of names) (sym (rolls-Sub a b)) ∙ fold-roll-Term Shape (shape_step names) (Term-F.Sub a b)
-
-  pub shape-Neg : (a : Term) → shape_of names (Neg a) ≡ neg_shape (shape_of names a)
-  shape-Neg a = ap (shape_of names) (sym (rolls-Neg a)) ∙ fold-roll-Term Shape (shape_step names) (Term-F.Neg a)
-
-pub weight-Add : (a b : Term) → weight (Add a b) ≡ weight a + weight b
-weight-Add a b = ap weight (sym (rolls-Add a b)) ∙ fold-roll-Term ℕ weight_step (Term-F.Add a b)
-
-pub weight-Sub : (a b : Term) → weight (Sub a b) ≡ weight a + weight b
-weight-Sub a b = ap weight (sym (rolls-Sub a b)) ∙ fold-roll-Term ℕ weight_step (Term-F.Sub a b)
-
-pub weight-Neg : (a : Term) → weight (Neg a) ≡ weight a
-weight-Neg a = ap weight (sym (rolls-Neg a)) ∙ fold-roll-Term ℕ weight_step (Term-F.Neg a)
 
 -- ---- magnitudes
 within-+ : (a b : ℕ) (x y : ℤ) → IsWithin a x → IsWithin b y → IsWithin (a + b) (x +ℤ y)

@@ -42,9 +42,6 @@ two_pushed a b old mid new Other p q = q
 two_pushed a b old mid new Wide p q = λ all. q (All-tail HasSmallBound a (b ∷ []) all)
 two_pushed a b old mid new Memory p q = tt
 
-pub first_pushed : (a b : Lit) (old mid : List Lit) → (All HasSmallBound (a ∷ []) → ⊥) → All HasSmallBound (a ∷ b ∷ []) → ⊥
-first_pushed a b old mid h all = h (All-cons HasSmallBound a [] (All-head HasSmallBound a (b ∷ []) all) (All-nil HasSmallBound))
-
 pub sides_pushed : (cmp : Cmp) (o p : Option Form) (l m : Form) (old new : List Lit) (step : Step) → o ≡ Some l → p ≡ Some m → (is_named l.base || is_named m.base) ≡ true
     → Pushed (literals cmp l m) old new step → SidesPushed cmp o p old new step
 sides_pushed cmp o p l m old new step e g is h =
@@ -76,9 +73,6 @@ pub record AtomsSoFar (names : List (List ℕ)) (side : Side) (atoms : List Atom
   pub small : All HasSmallBound (flat_map (atom_literals names side) (take i atoms))
   pub index : All (IsIndexAtom names) (take i atoms)
 
-pub no_atoms : (names : List (List ℕ)) (side : Side) (atoms : List Atom) (old : List Lit) → AtomsSoFar names side atoms 0 old old
-no_atoms names side atoms old = record { added = sym (append-nil old); small = All-nil HasSmallBound; index = All-nil (IsIndexAtom names) }
-
 pub atom_more : (names : List (List ℕ)) (side : Side) (atoms : List Atom) (i : ℕ) (old lits new : List Lit) (d : Atom) → i < length atoms
     → AtomPushed names side (get_or atoms i d) lits new Done → AtomsSoFar names side atoms i old lits → AtomsSoFar names side atoms (i + 1) old new
 atom_more names side atoms i old lits new d h is so_far =
@@ -99,15 +93,6 @@ take_end [] zero h = refl
 take_end [] (suc i) h = refl
 take_end (x ∷ xs) zero h = absurd (omega arith)
 take_end (x ∷ xs) (suc i) h = ap (λ (ys : List _). x ∷ ys) (take_end xs i (omega arith))
-
-pub all_atoms : (names : List (List ℕ)) (side : Side) (atoms : List Atom) (i : ℕ) (old lits : List Lit) → length atoms ≤ i → AtomsSoFar names side atoms i old lits
-    → (lits ≡ old ++ flat_map (atom_literals names side) atoms) × All HasSmallBound (flat_map (atom_literals names side) atoms) × All (IsIndexAtom names) atoms
-all_atoms names side atoms i old lits h so_far =
-    let e = take_end atoms i h in (
-      so_far.added ∙ ap (λ (xs : List Atom). old ++ flat_map (atom_literals names side) xs) e,
-      subst (λ (xs : List Atom). All HasSmallBound (flat_map (atom_literals names side) xs)) e so_far.small,
-      subst (All (IsIndexAtom names)) e so_far.index,
-    )
 
 -- ---- a line
 no_vars : (vs : List Var) → length vs ≡ 0 → vs ≡ []
@@ -130,9 +115,6 @@ pub record LinesSoFar (names : List (List ℕ)) (clauses : List Clause) (i : ℕ
   pub rest : lines_from names 1 clauses ≡ lines ++ lines_from names (i + 1) (drop i clauses)
   pub small : All HasSmallBounds lines
   pub index : All (IsIndexClause names) (take i clauses)
-
-pub no_lines : (names : List (List ℕ)) (clauses : List Clause) → LinesSoFar names clauses 0 []
-no_lines names clauses = record { rest = refl; small = All-nil HasSmallBounds; index = All-nil (IsIndexClause names) }
 
 pub line_more : (names : List (List ℕ)) (clauses : List Clause) (i : ℕ) (lines : List Line) (d : Clause) (l : Line) → i < length clauses
     → (l ≡ line_of names (i + 1) (get_or clauses i d)) × HasSmallBounds l × IsIndexClause names (get_or clauses i d)
