@@ -1,0 +1,14 @@
+pub mod Numbering
+pub mod Numbers
+pub mod Texts
+pub mod Shapes
+pub mod Bounds
+pub mod Sides
+pub mod Semantics
+pub mod Truth
+pub mod Clauses
+pub mod Models
+pub mod Rows
+pub mod Steps
+pub mod Declared
+pub mod Found

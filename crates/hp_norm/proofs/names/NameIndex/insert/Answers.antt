@@ -1,0 +1,14 @@
+use Rattle.std.proofs.Common.{sym, subst, List, ℕ, map}
+use Rattle.hp_norm.specs.Numbered.{Added}
+use Rattle.hp_norm.proofs.Numbering.{added-map}
+use Rattle.hp_norm.proofs.names.NameIndex.insert.Goals as goal
+
+pub returns-clause-added : goal.returns-clause-added
+returns-clause-added c =
+    let e = c.in_ok-insert.ensures in
+    let keys = c.self.inside.set.keys in
+    let new = map (λ name. name.items) c.insert.new.self.keys in
+    let b = c.in_ok-insert.field-0 in
+    let added = added-map (λ name. name.items) keys c.insert.new.self.keys c.in_ok-owned.owned b e.added e.keys in
+    let named = subst (λ (name : List ℕ). Added (map (λ name. name.items) keys) name new b) c.in_ok-owned.ensures.items added in
+    subst (λ (old : List (List ℕ)). Added old c.args.name.now new b) c.self.view_is named

@@ -1,0 +1,199 @@
+//! The literals of atoms: each says a bound on the difference of two constants.
+
+ghost use Rattle.std.specs.Prelude.{◌≡◌, ◌≤◌, ◌-ℤ◌, ◌∷◌, [], ◌||◌, MatchOption, length};
+ghost use Rattle.hp_base.specs.declared.literal.Lit.TheVariants.{Idx};
+ghost use Rattle.hp_ast.specs.declared.problem.Cmp.TheVariants.{Ne};
+ghost use Rattle.hp_norm.specs.Forms.{IsSmall, IsSmallShape, shape_form};
+ghost use Rattle.hp_norm.specs.Literals.{bound_of, cancel, compared, is_named, literals, negated, taken};
+ghost use Rattle.hp_norm.specs.Answers.{AtomPushed, AtomsPushed, Pushed, SidesPushed};
+
+use crate::collect::{Form, Shape, collect, small};
+use crate::names::NameIndex;
+use hp_ast::{Atom, Cmp};
+use hp_base::{IdxLit, Lit, Name, Rel};
+use hp_num::List;
+
+/// The part of a clause that an atom stands in. An atom of the guard stands for its negation.
+#[derive(Clone, Copy)]
+pub enum Side {
+    Guard,
+    Head,
+}
+
+/// Whether literals were added; an atom that isn't of sort idx; a number that is too large; or want of memory.
+#[derive(Clone, Copy)]
+pub enum Step {
+    Done,
+    Other,
+    Wide,
+    Memory,
+}
+
+/// The relation that holds where this one does not.
+fn negated(cmp: Cmp) -> Cmp
+    ensures { result ≡ negated cmp }
+{
+    match cmp {
+        Cmp::Le => Cmp::Gt,
+        Cmp::Lt => Cmp::Ge,
+        Cmp::Eq => Cmp::Ne,
+        Cmp::Ne => Cmp::Eq,
+        Cmp::Ge => Cmp::Lt,
+        Cmp::Gt => Cmp::Le,
+    }
+}
+
+fn taken(side: Side, cmp: Cmp) -> Cmp
+    ensures { result ≡ taken side cmp }
+{
+    match side {
+        Side::Guard => negated(cmp),
+        Side::Head => cmp,
+    }
+}
+
+fn cancel(left: Option<Name>, right: Option<Name>) -> bool
+    ensures { result ≡ cancel left right }
+{
+    match left {
+        None => false,
+        Some(left) => match right {
+            None => false,
+            Some(right) => left.0 == right.0,
+        },
+    }
+}
+
+/// The bound of the difference of two forms, or `None` where it is too large.
+fn bound(rel: Rel, left: i128, right: i128) -> Option<i128>
+    requires left { IsSmall left }
+    requires right { IsSmall right }
+    ensures { MatchOption result (IsSmall (bound_of rel (right -ℤ left)) → ⊥) (λ k. (k ≡ bound_of rel (right -ℤ left)) × IsSmall (bound_of rel (right -ℤ left))) }
+{
+    match rel {
+        Rel::Le | Rel::Eq => small(right - left),
+        Rel::Lt => small(right - left - 1),
+    }
+}
+
+/// The literal that compares two forms, or `None` where its bound is too large.
+fn compared(rel: Rel, left: Form, right: Form) -> Option<IdxLit>
+    requires left { IsSmall left.offset }
+    requires right { IsSmall right.offset }
+    ensures { MatchOption result (IsSmall (compared rel left right).bound → ⊥) (λ row. (row ≡ compared rel left right) × IsSmall (compared rel left right).bound) }
+{
+    let cancels = cancel(left.base, right.base);
+    match bound(rel, left.offset, right.offset) {
+        None => None,
+        Some(bound) => Some(IdxLit {
+            exact: match rel {
+                Rel::Le | Rel::Lt => false,
+                Rel::Eq => true,
+            },
+            left: if cancels { None } else { left.base },
+            right: if cancels { None } else { right.base },
+            bound,
+        }),
+    }
+}
+
+/// Adds the literal that compares two forms.
+fn push_compared(lits: &mut List<Lit>, rel: Rel, left: Form, right: Form) -> Step
+    requires left { IsSmall left.offset }
+    requires right { IsSmall right.offset }
+    ensures { Pushed (Idx (compared rel left right) ∷ []) lits.old lits.new result }
+{
+    match compared(rel, left, right) {
+        None => Step::Wide,
+        Some(row) => match lits.push(Lit::Idx(row)) {
+            Err(_) => Step::Memory,
+            Ok(()) => Step::Done,
+        },
+    }
+}
+
+/// Adds the two literals that say that two forms differ.
+fn push_apart(lits: &mut List<Lit>, left: Form, right: Form) -> Step
+    requires left { IsSmall left.offset }
+    requires right { IsSmall right.offset }
+    ensures { Pushed (literals Ne left right) lits.old lits.new result }
+{
+    match push_compared(lits, Rel::Lt, left, right) {
+        Step::Done => push_compared(lits, Rel::Lt, right, left),
+        step => step,
+    }
+}
+
+/// Adds the literals of two forms in a relation.
+fn push_literals(lits: &mut List<Lit>, cmp: Cmp, left: Form, right: Form) -> Step
+    requires left { IsSmall left.offset }
+    requires right { IsSmall right.offset }
+    ensures { Pushed (literals cmp left right) lits.old lits.new result }
+{
+    match cmp {
+        Cmp::Le => push_compared(lits, Rel::Le, left, right),
+        Cmp::Lt => push_compared(lits, Rel::Lt, left, right),
+        Cmp::Eq => push_compared(lits, Rel::Eq, left, right),
+        Cmp::Ne => push_apart(lits, left, right),
+        Cmp::Ge => push_compared(lits, Rel::Le, right, left),
+        Cmp::Gt => push_compared(lits, Rel::Lt, right, left),
+    }
+}
+
+/// Whether one of the two is a name.
+fn are_named(left: Option<Name>, right: Option<Name>) -> bool
+    ensures { result ≡ (is_named left || is_named right) }
+{
+    left.is_some() || right.is_some()
+}
+
+/// Adds the literals of two terms in a relation, where both are index terms and one has a name.
+fn push_sides(lits: &mut List<Lit>, cmp: Cmp, left: Shape, right: Shape) -> Step
+    requires left { IsSmallShape left }
+    requires right { IsSmallShape right }
+    ensures { SidesPushed cmp (shape_form left) (shape_form right) lits.old lits.new result }
+{
+    match left.form() {
+        None => Step::Other,
+        Some(first) => match right.form() {
+            None => Step::Other,
+            Some(second) => {
+                if are_named(first.base, second.base) {
+                    push_literals(lits, cmp, first, second)
+                } else {
+                    Step::Other
+                }
+            }
+        },
+    }
+}
+
+/// Adds the literals of an atom.
+fn push_atom(index: &NameIndex, lits: &mut List<Lit>, side: Side, atom: &Atom) -> Step
+    requires { length index.now ≤ 4000 }
+    ensures { AtomPushed index.now side atom.now lits.old lits.new result }
+{
+    match collect(index, &atom.left) {
+        None => Step::Wide,
+        Some(left) => match collect(index, &atom.right) {
+            None => Step::Wide,
+            Some(right) => push_sides(lits, taken(side, atom.cmp), left, right),
+        },
+    }
+}
+
+/// Adds the literals of atoms in their order.
+pub fn push_atoms(index: &NameIndex, lits: &mut List<Lit>, side: Side, atoms: &[Atom]) -> Step
+    requires { length index.now ≤ 4000 }
+    ensures { AtomsPushed index.now side atoms.now lits.old lits.new result }
+{
+    for atom in atoms {
+        match push_atom(index, lits, side, atom) {
+            Step::Done => {}
+            Step::Other => return Step::Other,
+            Step::Wide => return Step::Wide,
+            Step::Memory => return Step::Memory,
+        }
+    }
+    Step::Done
+}

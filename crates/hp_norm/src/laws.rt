@@ -1,0 +1,13 @@
+//! What ties the ground lines of an index problem to the structures of the problem.
+
+ghost use Rattle.hp_norm.specs.Laws.{StructuresGiveValues, ValuesGiveAStructure};
+
+/// Every structure that satisfies an index problem gives values at which its ground lines are all true.
+pub fn structures_give_values()
+    ensures { StructuresGiveValues }
+{}
+
+/// Values at which the ground lines of an index problem are all true give a structure that satisfies the problem.
+pub fn values_give_a_structure()
+    ensures { ValuesGiveAStructure }
+{}

@@ -1,0 +1,16 @@
+pub mod Token
+pub mod Tree
+pub mod Grammar
+pub mod Machine
+pub mod Counts
+pub mod Faults
+pub mod Given
+pub mod Bodies
+pub mod BodyMachine
+pub mod Declarations
+pub mod Problems
+pub mod Stages
+pub mod Top
+pub mod Symbols
+pub mod Causes
+pub mod Spells

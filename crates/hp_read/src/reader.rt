@@ -1,0 +1,107 @@
+//! The reader of problems: one token after another, with the limits counted beside.
+//! What bytes spell, and what their fault is, `specs/Spells.antt` says.
+
+ghost use Rattle.std.specs.Prelude.{Ok, Err, ◌≡◌, ◌≢◌, ◌⊎◌, IfOk, IfErr};
+ghost use Rattle.hp_text.specs.Tokens.{next_from};
+ghost use Rattle.hp_text.specs.Placed.{IsPlaced};
+ghost use Rattle.hp_text.specs.declared.token.Kind.TheVariants.{End};
+ghost use Rattle.hp_read.specs.Spells.{Spells, IsFault, IsReading};
+ghost use Rattle.hp_ast.specs.declared.problem.Problem.{Problem as Spelled};
+ghost use Rattle.hp_read.specs.declared.fault.ReadErr.TheVariants.{Memory};
+
+use crate::counts::Counts;
+use crate::fault::ReadErr;
+use crate::stage::Progress;
+use crate::stop::Stop;
+use crate::symbol::symbol_at;
+use hp_ast::Problem;
+use hp_text::{Cursor, Kind, Token};
+use std::alloc::Global;
+
+/// Reads a problem from a text.
+///
+/// The text is tokens of the grammar with blanks and comments between them. A missing profile line stands for profile 1, each name of a
+/// `const` line is a declaration of its own, and declarations and items are in the order of the text. A query is a clause without
+/// variables whose `query` is true.
+///
+/// Of the faults of a text the one with the least offset comes. `Syntax` comes at the first token such that no text of the grammar,
+/// whatever its limits, begins with the tokens up to and with it, or at the first byte that begins no token, or at the length where the
+/// text ends too early. `LongNumeral` comes at a run of more than 18 digits where the next token would begin, and `Deep` at the 65th
+/// open parenthesis, or at the 1,024th sign `+` or `-` between parts of one atom. `Memory` may come at any text.
+pub fn read(alloc: Global, bytes: &[u8]) -> Result<Problem, ReadErr>
+    ensures found { IfOk result (Spells bytes.now) }
+    ensures fault { IfErr result (IsFault bytes.now) }
+    ensures only { (p : Spelled) → Spells bytes.now p → (result ≡ Ok p) ⊎ (result ≡ Err Memory) }
+{
+    read_tokens(alloc, bytes)
+}
+
+/// What the reader has come to, and the place behind the last token.
+#[derive(Drop)]
+struct Reading {
+    progress: Progress,
+    counts: Counts,
+    place: usize,
+}
+
+fn read_tokens(alloc: Global, bytes: &[u8]) -> Result<Problem, ReadErr>
+    ensures found { IfOk result (Spells bytes.now) }
+    ensures fault { IfErr result (IsFault bytes.now) }
+{
+    let mut cursor = Cursor::new(bytes);
+    let mut reading = Reading {
+        progress: Progress::new(alloc),
+        counts: Counts::new(),
+        place: 0,
+    };
+    loop {
+        let token = cursor.next()?;
+        if token.kind == Kind::End {
+            return finish(bytes, reading, token);
+        }
+        reading = advance(alloc, bytes, reading, token)?;
+    }
+}
+
+/// The reader behind one more token of the bytes.
+fn advance(alloc: Global, bytes: &[u8], reading: Reading, token: Token) -> Result<Reading, ReadErr>
+    requires reading { IsReading bytes.now reading.place reading.progress reading.counts }
+    requires next { next_from bytes.now reading.place ≡ Ok token }
+    requires some { token.kind ≢ End }
+    requires placed { IsPlaced bytes.now reading.place token }
+    ensures read { IfOk result (λ r. IsReading bytes.now r.place r.progress r.counts) }
+    ensures place { IfOk result (λ r. r.place ≡ token.end) }
+    ensures fault { IfErr result (IsFault bytes.now) }
+{
+    let symbol = symbol_at(alloc, bytes, token)?;
+    let counts = reading.counts.count(&symbol);
+    let offset = token.start;
+    match reading.progress.step(alloc, symbol) {
+        Err(Stop::Refused) => Err(ReadErr::Syntax { offset }),
+        Err(Stop::Memory) => Err(ReadErr::Memory),
+        Ok(progress) => match counts {
+            None => Err(ReadErr::Deep { offset }),
+            Some(counts) => Ok(Reading {
+                progress,
+                counts,
+                place: token.end,
+            }),
+        },
+    }
+}
+
+/// The problem at the end of the bytes, where it may end there.
+fn finish(bytes: &[u8], reading: Reading, token: Token) -> Result<Problem, ReadErr>
+    requires reading { IsReading bytes.now reading.place reading.progress reading.counts }
+    requires next { next_from bytes.now reading.place ≡ Ok token }
+    requires last { token.kind ≡ End }
+    ensures found { IfOk result (Spells bytes.now) }
+    ensures fault { IfErr result (IsFault bytes.now) }
+{
+    match reading.progress.end() {
+        Some(problem) => Ok(problem),
+        None => Err(ReadErr::Syntax {
+            offset: bytes.len(),
+        }),
+    }
+}
