@@ -1,21 +1,13 @@
 //! The values of numerals.
 
-<<<<<<< HEAD
 ghost use Rattle.std.specs.Prelude.{◌≡◌, ◌<◌, ◌^◌, pos};
-=======
-ghost use Rattle.std.specs.Prelude.{◌≡◌, pos};
->>>>>>> e7ae61cc641d4bed910bb59af8e8f0a9ed720a35
 ghost use Rattle.hp_text.specs.Numeral.{IsNumeral, numeral_value};
 
 /// The number that 1 to 18 digits write in decimal, the first digit counting most. Zeros in front count nothing.
 pub fn numeral(bytes: &[u8]) -> i128
     requires { IsNumeral bytes.now }
-<<<<<<< HEAD
     ensures value { result ≡ pos (numeral_value bytes.now) }
     ensures small { numeral_value bytes.now < 10 ^ 18 }
-=======
-    ensures { result ≡ pos (numeral_value bytes.now) }
->>>>>>> e7ae61cc641d4bed910bb59af8e8f0a9ed720a35
 {
     let mut value: u64 = 0;
     for digit in bytes {

@@ -1,12 +1,7 @@
-<<<<<<< HEAD
 use Rattle.std.proofs.Common.{◌≡◌, ◌<◌, ◌≤◌, ◌^◌, ◌∙◌, ap, sym, subst, take, arith, ℕ, length}
 use Rattle.std.proofs.Math.Seq.{take-length}
 use Rattle.hp_text.specs.Numeral.{numeral_value}
 use Rattle.hp_text.proofs.Values.{few_digits, one_digit_more}
-=======
-use Rattle.std.proofs.Common.{arith}
-use Rattle.hp_text.proofs.Values.{one_digit_more}
->>>>>>> e7ae61cc641d4bed910bb59af8e8f0a9ed720a35
 use Rattle.hp_text.proofs.digits.numeral.Goals as goal
 
 pub overflow_mul-value : goal.overflow_mul-value
@@ -14,7 +9,6 @@ overflow_mul-value c = omega (arith, one_digit_more c.loop-digit.value c.loop-di
 
 pub overflow_add-value : goal.overflow_add-value
 overflow_add-value c = omega (arith, one_digit_more c.loop-digit.value c.loop-digit.digit-index c.loop-digit.invariant.small (omega arith))
-<<<<<<< HEAD
 
 pub returns-clause-small : goal.returns-clause-small
 returns-clause-small c =
@@ -22,5 +16,3 @@ returns-clause-small c =
     let whole : take c.loop-digit.digit-index c.args.bytes.now ≡ c.args.bytes.now = ap (λ n. take n c.args.bytes.now) all ∙ take-length c.args.bytes.now in
     let value : c.loop-digit.value ≡ numeral_value c.args.bytes.now = c.loop-digit.invariant.value ∙ ap numeral_value whole in
     few_digits c.loop-digit.value _ c.loop-digit.digit-index value c.loop-digit.invariant.small (omega (arith, c.requires.most))
-=======
->>>>>>> e7ae61cc641d4bed910bb59af8e8f0a9ed720a35
