@@ -10,7 +10,7 @@ numeral-value-requires c = c.requires.numeral (kind_is _ _ (sym c.same-else-same
 pub overflow_cast-result : goal.overflow_cast-result
 overflow_cast-result c =
     let is = c.requires.numeral (kind_is _ _ (sym c.same-else-same.ensures ∙ c.if-same-2.true)) in
-    cast_fits _ _ c.numeral-value.ensures (numeral_fits _ is)
+    cast_fits _ _ c.numeral-value.ensures.value (numeral_fits _ is)
 
 pub returns-in_ok-from_slice : goal.returns-in_ok-from_slice
 returns-in_ok-from_slice c =
@@ -22,7 +22,7 @@ returns-then-same-2 c =
     let numeral_kind = sym c.same-else-same.ensures ∙ c.if-same-2.true in
     let e = symbol_numeral c.args.bytes.now c.args.token numeral_kind in
     let is = c.requires.numeral (kind_is _ _ numeral_kind) in
-    ap (λ z. numeral z) (cast_is _ _ c.numeral-value.ensures (numeral_fits _ is)) ∙ sym e
+    ap (λ z. numeral z) (cast_is _ _ c.numeral-value.ensures.value (numeral_fits _ is)) ∙ sym e
 
 pub returns-else-same-2 : goal.returns-else-same-2
 returns-else-same-2 c =
