@@ -1,0 +1,13 @@
+-- How little a text of some length can spell.
+use Rattle.std.specs.Prelude.{ℕ, ◌+◌, ◌≤◌, List, length}
+use Rattle.hp_ast.specs.declared.problem.Problem.{Problem}
+use Rattle.hp_read.specs.Spells.{Spells}
+use Rattle.hp_norm.specs.Ground.{IsLight}
+
+-- no more declarations and clauses than bytes
+abbrev pub FewItems : Type 0
+FewItems = (bytes : List ℕ) (p : Problem) → Spells bytes p → (length p.decls + length p.clauses) ≤ length bytes
+
+-- where the text has at most 2^20 bytes, no atom has numbers that come near to 10^25 together
+abbrev pub LightNumbers : Type 0
+LightNumbers = (bytes : List ℕ) (p : Problem) → Spells bytes p → length bytes ≤ 1048576 → IsLight p

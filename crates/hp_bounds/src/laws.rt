@@ -1,0 +1,14 @@
+//! Two laws of the grammar. Neither has a cause to fail: they speak of every text, and nothing is computed.
+
+ghost use Rattle.hp_bounds.specs.Laws.{FewItems, LightNumbers};
+
+/// A problem has no more declarations and clauses together than any text that spells it has bytes.
+pub fn few_items()
+    ensures { FewItems }
+{}
+
+/// The numbers of each atom of a problem that a text of at most 1,048,576 bytes spells stay below 10^25 together:
+/// the magnitudes of the numerators on both sides, those in arguments left out, add up to less.
+pub fn light_numbers()
+    ensures { LightNumbers }
+{}
