@@ -19,6 +19,9 @@ fn values_are_written(rt: HostRuntime) -> Result<(), Fail> {
         tables: List::new(rt.alloc()),
     };
     let text = write_structure(rt.alloc(), &structure)?;
-    assert_eq!(rt; text.as_slice(), b"universe 3\nconst c = 3/4\nconst d = -3\n".as_slice());
+    assert_eq!(rt;
+        text.as_slice(),
+        b"universe 3\nconst c = 3/4\nconst d = -3\n".as_slice()
+    );
     Ok(())
 }

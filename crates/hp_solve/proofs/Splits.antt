@@ -24,4 +24,4 @@ closed_splits g tree h = reads_split Any g tree ([] ∷ []) [] h
 pub spent_splits : (sorts : List Sort) (g : Ground) (tree : List Node) (most : ℕ) → IsSpent sorts g.lines tree most → All (SplitsLine g) tree
 spent_splits sorts g tree most h =
     subst (All (SplitsLine g)) (sym h.whole) (All-append (SplitsLine g) h.made (replicate (length h.waiting) Unopened)
-        (reads_split _ g h.made ([] ∷ []) h.waiting h.honest) (All-replicate (SplitsLine g) (length h.waiting) Unopened tt))
+    (reads_split _ g h.made ([] ∷ []) h.waiting h.honest) (All-replicate (SplitsLine g) (length h.waiting) Unopened tt))

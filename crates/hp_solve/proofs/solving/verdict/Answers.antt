@@ -19,7 +19,7 @@ returns-in-Ok c =
     let g = c.args.g.now in
     let found = subst (λ f. IsFound (sorts g.names) g.lines c.args.most f) c.in-Model.is c.requires.found in
     sat_from c.args.source.now g c.in-Model.solution.path c.in-Model.solution.values c.in-Ok.structure c.requires.ground c.requires.scope found.0
-        (c.in-Ok.ensures ∙ ap (λ (names : List (List ℕ)). structure_of names c.in-Model.solution.values.values) c.as_slice.ensures)
+    (c.in-Ok.ensures ∙ ap (λ (names : List (List ℕ)). structure_of names c.in-Model.solution.values.values) c.as_slice.ensures)
 
 pub entries-requires-clause-named : goal.entries-requires-clause-named
 entries-requires-clause-named c = ground_named c.args.source.now c.args.g.now c.requires.ground
