@@ -1,5 +1,7 @@
 //! Whole runs over memory: statuses, exact texts, short reads and writes, and faults.
 
+ghost use Rattle.std.specs.Prelude.{None};
+
 use crate::run;
 use hp_io::{Failed, MemorySink, MemorySource, Sink, Source, SteadySink, SteadySource, WriteErr};
 use std::alloc::{AllocError, Global};
