@@ -2,3 +2,5 @@ pub mod Transfers
 pub mod Codes
 pub mod Tells
 pub mod WordLists
+pub mod Decisions
+pub mod Settled

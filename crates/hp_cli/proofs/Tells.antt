@@ -6,10 +6,8 @@ use lib.Pointwise.{pointwise}
 use Rattle.std.specs.declared.option.Option.{Option}
 use Rattle.std.specs.Io.KnownBytes.{Appends}
 use Rattle.hp_cli.specs.declared.answer.Status.{Status}
-use Rattle.hp_cli.specs.declared.answer.Status.TheVariants.{Usage, ReadFault, WriteFault, Sat, Spent, Memory, NotBuilt, Unsat}
-use Rattle.hp_cli.specs.Answer.{ToldWritten, Told, Answers, Begins, Stands, IsWhole, IsNotBuilt}
-use Rattle.hp_ast.specs.declared.problem.Problem.{Problem}
-use Rattle.hp_lines.specs.Problem.{Spells}
+use Rattle.hp_cli.specs.declared.answer.Status.TheVariants.{Done, Usage, ReadFault, WriteFault, Spelling, Sort, Limit, Sat, Spent, Memory, NotBuilt, Unsat}
+use Rattle.hp_cli.specs.Answer.{ToldWritten, Told, Answers, Begins, Stands, IsWhole}
 use Rattle.hp_cli.specs.Transfer.{WritesFront}
 
 pub IfSome_map : {A : Type 0} (P Q : A → Type 0) (x : Option A) → ((a : A) → P a → Q a) → IfSome x P → IfSome x Q
@@ -36,6 +34,10 @@ told_all (Some x) (Some y) text P w p = (text, w, p)
 
 pub whole_stands : (words : List (List ℕ)) (bytes out : List ℕ) (s : Status) → IsWhole s → Answers words bytes out s → Stands words bytes out s
 whole_stands words bytes out Usage w a = a
+whole_stands words bytes out Done w a = a
+whole_stands words bytes out Spelling w a = a
+whole_stands words bytes out Sort w a = a
+whole_stands words bytes out Limit w a = a
 whole_stands words bytes out Sat w a = a
 whole_stands words bytes out Unsat w a = a
 whole_stands words bytes out Spent w a = a
@@ -53,6 +55,7 @@ pub told_source : (left before after : Option (List ℕ)) (Known : List ℕ → 
 told_source None before after Known P k f = tt
 told_source (Some bytes) before after Known P k f = f bytes k
 
--- a text of the form has at most so many bytes
-pub long_not_built : (bytes : List ℕ) → 1048576 < length bytes → IsNotBuilt bytes
-long_not_built bytes h p s = let size = s.size in omega arith
+pub told_both : (left before after : Option (List ℕ)) (P Q : List ℕ → List ℕ → Type 0) → ((bytes out : List ℕ) → P bytes out → Q bytes out)
+    → Told left before after P → Told left before after Q
+told_both None before after P Q f h = tt
+told_both (Some bytes) before after P Q f h = told_map before after (P bytes) (Q bytes) (f bytes) h

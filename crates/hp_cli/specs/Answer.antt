@@ -1,91 +1,84 @@
 -- What the program answers: the status, and the text that comes with it.
-use Rattle.std.specs.Prelude.{◌≡◌, ◌⊎◌, ℕ, ◌≤◌, List, [], ◌∷◌, ◌++◌, codes, ⊤, IfSome}
+use Rattle.std.specs.Prelude.{◌≡◌, ◌⊎◌, ℕ, ◌<◌, ◌≤◌, List, [], ◌++◌, ⊤, IfSome, length}
 use Rattle.std.specs.declared.option.Option.{Option}
 use Rattle.std.specs.declared.option.Option.TheVariants.{Some, None}
-use Rattle.hp_ast.specs.declared.problem.Problem.{Problem}
-use Rattle.hp_base.specs.declared.names.Ground.{Ground}
-use Rattle.hp_model.specs.declared.structure.Structure.{Structure}
-use Rattle.hp_model.specs.Satisfies.{Satisfies}
-use Rattle.hp_model.specs.Written.{structure_text}
-use Rattle.std.specs.Fmt.{decimal}
-use Rattle.hp_base.specs.Names.{sorts}
-use Rattle.hp_leaf.specs.Tree.{IsSpent}
-use Rattle.hp_cert.specs.declared.refutation.Refutation.{Refutation}
-use Rattle.hp_cert.specs.Entries.{AreSplitLines, all_defs}
-use Rattle.hp_cert.specs.Refutation.{refutation_text}
-use Rattle.hp_cert.specs.Refutes.{Refutes}
-use Rattle.hp_lines.specs.Lines.{IsGroundOf}
-use Rattle.hp_lines.specs.Problem.{Spells}
+use Rattle.std.specs.Io.KnownBytes.{IsAtEnd}
 use Rattle.hp_cli.specs.declared.answer.Status.{Status}
-use Rattle.hp_cli.specs.declared.answer.Status.TheVariants.{Usage, ReadFault, WriteFault, Sat, Spent, Memory, NotBuilt, Unsat}
-use Rattle.hp_cli.specs.Words.{IsSolve, IsUsage}
+use Rattle.hp_cli.specs.declared.answer.Status.TheVariants.{Done, Usage, ReadFault, WriteFault, Spelling, Sort, Limit, Sat, Spent, Memory, NotBuilt, Unsat}
+use Rattle.hp_cli.specs.declared.words.Task.{Task}
+use Rattle.hp_cli.specs.declared.words.Task.TheVariants.{Solve, Print}
+use Rattle.hp_cli.specs.Words.{Asks, IsUsage}
+use Rattle.hp_cli.specs.Refusals.{usage_text}
+use Rattle.hp_cli.specs.Verdicts.{IsNotBuilt, Missorted, Misspelled, OutOfNodes, Printed, Satisfiable, TooLong, TooMany, TooManyNames, Unsatisfiable}
 
-abbrev pub line : List ℕ → List ℕ
-line text = text ++ (10 ∷ [])
-
-abbrev pub usage_text : List ℕ
-usage_text = line (codes "usage: hpilot solve [--nodes N], check, classify, instances, print, bench A B")
-
-abbrev pub not_built_text : List ℕ
-not_built_text = line (codes "not built")
-
--- ---- verdicts on a problem
--- the bytes spell a problem, and the text is a structure that satisfies it
-pub record Satisfiable (bytes text : List ℕ) : Type 0 where
-  pub problem : Problem
-  pub structure : Structure
-  pub spelled : Spells bytes problem
-  pub satisfied : Satisfies structure problem
-  pub written : text ≡ line (codes "satisfiable") ++ structure_text structure
-
--- The bytes spell a problem that no structure satisfies, and the text is a refutation: each definition and line in it is
--- that of the problem with its number, each split is of a listed line, and the tree is whole with valid leaves.
-pub record Unsatisfiable (bytes text : List ℕ) : Type 0 where
-  pub problem : Problem
-  pub spelled : Spells bytes problem
-  pub lines : Ground
-  pub ground : IsGroundOf spelled.source lines
-  pub refutation : Refutation
-  pub refuted : Refutes lines refutation
-  pub none : (s : Structure) → Satisfies s problem → ⊥
-  pub written : text ≡ line (codes "unsatisfiable") ++ refutation_text refutation
-
--- The bytes spell a problem, and the text is an honest tree of exactly so many splits and leaves, with an open place, below
--- the definitions and the lines that it splits.
-pub record OutOfNodes (bytes text : List ℕ) (most : ℕ) : Type 0 where
-  pub problem : Problem
-  pub spelled : Spells bytes problem
-  pub lines : Ground
-  pub ground : IsGroundOf spelled.source lines
-  pub listing : Refutation
-  pub honest : IsSpent (sorts lines.names) lines.lines listing.tree most
-  pub defs : listing.defs ≡ all_defs lines.names
-  pub listed : AreSplitLines lines listing.tree listing.lines
-  pub written : text ≡ line (codes "spent " ++ decimal most) ++ refutation_text listing
-
--- the bytes spell no problem of the form that is read so far
-abbrev pub IsNotBuilt : List ℕ → Type 0
-IsNotBuilt bytes = (p : Problem) → Spells bytes p → ⊥
-
--- ---- statuses
 -- the exit status
 abbrev pub code : Status → ℕ
+code Done = 0
 code Usage = 2
 code ReadFault = 3
 code WriteFault = 4
+code Spelling = 5
+code Sort = 6
+code Limit = 8
 code Sat = 10
 code Spent = 11
 code Memory = 12
 code NotBuilt = 13
 code Unsat = 20
 
--- a status with its whole text
+-- ---- a status with its whole text, for a task on the bytes of the input
+-- printing asks for spelling and size alone
+abbrev pub Prints : List ℕ → List ℕ → Status → Type 0
+Prints bytes text Done = Printed bytes text
+Prints bytes text Spelling = Misspelled bytes text
+Prints bytes text Limit = TooLong bytes text
+Prints bytes text Usage = ⊥
+Prints bytes text ReadFault = ⊥
+Prints bytes text WriteFault = ⊥
+Prints bytes text Sort = ⊥
+Prints bytes text Sat = ⊥
+Prints bytes text Spent = ⊥
+Prints bytes text Memory = ⊥
+Prints bytes text NotBuilt = ⊥
+Prints bytes text Unsat = ⊥
+
+-- A search comes last: before it spelling and size, then names and sorts, then the limits of a text, and then the form of
+-- the problem and the limit of its names.
+abbrev pub Solves : ℕ → List ℕ → List ℕ → Status → Type 0
+Solves most bytes text Spelling = Misspelled bytes text
+Solves most bytes text Sort = Missorted bytes text
+Solves most bytes text Limit = TooLong bytes text ⊎ (TooMany bytes text ⊎ TooManyNames bytes text)
+Solves most bytes text NotBuilt = IsNotBuilt bytes text
+Solves most bytes text Sat = Satisfiable bytes text
+Solves most bytes text Unsat = Unsatisfiable bytes text
+Solves most bytes text Spent = OutOfNodes bytes text most
+Solves most bytes text Done = ⊥
+Solves most bytes text Usage = ⊥
+Solves most bytes text ReadFault = ⊥
+Solves most bytes text WriteFault = ⊥
+Solves most bytes text Memory = ⊥
+
+abbrev pub Does : Task → List ℕ → List ℕ → Status → Type 0
+Does (Solve most) bytes text status = Solves most bytes text status
+Does Print bytes text status = Prints bytes text status
+
+-- what the words ask for is done
+pub record IsDone (words : List (List ℕ)) (bytes text : List ℕ) (status : Status) : Type 0 where
+  pub task : Task
+  pub asked : Asks words task
+  pub does : Does task bytes text status
+
+-- a status with its whole text, for the words of the command line
 abbrev pub Answers : List (List ℕ) → List ℕ → List ℕ → Status → Type 0
 Answers words bytes text Usage = IsUsage words × (text ≡ usage_text)
-Answers words bytes text Sat = (most : ℕ) × IsSolve words most × Satisfiable bytes text
-Answers words bytes text Unsat = (most : ℕ) × IsSolve words most × Unsatisfiable bytes text
-Answers words bytes text Spent = (most : ℕ) × IsSolve words most × OutOfNodes bytes text most
-Answers words bytes text NotBuilt = (most : ℕ) × IsSolve words most × IsNotBuilt bytes × (text ≡ not_built_text)
+Answers words bytes text Done = IsDone words bytes text Done
+Answers words bytes text Spelling = IsDone words bytes text Spelling
+Answers words bytes text Sort = IsDone words bytes text Sort
+Answers words bytes text Limit = IsDone words bytes text Limit
+Answers words bytes text Sat = IsDone words bytes text Sat
+Answers words bytes text Unsat = IsDone words bytes text Unsat
+Answers words bytes text Spent = IsDone words bytes text Spent
+Answers words bytes text NotBuilt = IsDone words bytes text NotBuilt
 Answers words bytes text ReadFault = ⊥
 Answers words bytes text WriteFault = ⊥
 Answers words bytes text Memory = ⊥
@@ -103,6 +96,10 @@ Stands words bytes out ReadFault = out ≡ []
 Stands words bytes out WriteFault = Begins words bytes out
 Stands words bytes out Memory = (out ≡ []) ⊎ Begins words bytes out
 Stands words bytes out Usage = Answers words bytes out Usage
+Stands words bytes out Done = Answers words bytes out Done
+Stands words bytes out Spelling = Answers words bytes out Spelling
+Stands words bytes out Sort = Answers words bytes out Sort
+Stands words bytes out Limit = Answers words bytes out Limit
 Stands words bytes out Sat = Answers words bytes out Sat
 Stands words bytes out Unsat = Answers words bytes out Unsat
 Stands words bytes out Spent = Answers words bytes out Spent
@@ -117,6 +114,10 @@ pub record Fits (words : List (List ℕ)) (bytes out : List ℕ) (number : ℕ) 
 -- a status that comes with its whole text
 abbrev pub IsWhole : Status → Type 0
 IsWhole Usage = Unit {0}
+IsWhole Done = Unit {0}
+IsWhole Spelling = Unit {0}
+IsWhole Sort = Unit {0}
+IsWhole Limit = Unit {0}
 IsWhole Sat = Unit {0}
 IsWhole Unsat = Unit {0}
 IsWhole Spent = Unit {0}
@@ -128,6 +129,10 @@ IsWhole Memory = ⊥
 -- a status that an input may have
 abbrev pub IsDecided : Status → Type 0
 IsDecided Usage = ⊥
+IsDecided Done = Unit {0}
+IsDecided Spelling = Unit {0}
+IsDecided Sort = Unit {0}
+IsDecided Limit = Unit {0}
 IsDecided Sat = Unit {0}
 IsDecided Unsat = Unit {0}
 IsDecided Spent = Unit {0}
@@ -135,20 +140,6 @@ IsDecided NotBuilt = Unit {0}
 IsDecided ReadFault = ⊥
 IsDecided WriteFault = ⊥
 IsDecided Memory = ⊥
-
--- a verdict on the problem, with its evidence
-abbrev pub IsVerdict : Status → Type 0
-IsVerdict Usage = ⊥
-IsVerdict Sat = Unit {0}
-IsVerdict Unsat = Unit {0}
-IsVerdict Spent = Unit {0}
-IsVerdict NotBuilt = ⊥
-IsVerdict ReadFault = ⊥
-IsVerdict WriteFault = ⊥
-IsVerdict Memory = ⊥
-
-abbrev pub IsVerdictCode : ℕ → Type 0
-IsVerdictCode number = (s : Status) × IsVerdict s × (number ≡ code s)
 
 -- ---- where source and sink tell their bytes
 -- what the sink tells of the bytes that were written
@@ -160,3 +151,31 @@ ToldWritten (Some before) (Some after) P = (out : List ℕ) × (after ≡ before
 -- what the bytes that the source had left and those that were written keep to
 abbrev pub Told : Option (List ℕ) → Option (List ℕ) → Option (List ℕ) → (List ℕ → List ℕ → Type 0) → Type 0
 Told left before after P = IfSome left (λ bytes. ToldWritten before after (λ out. P bytes out))
+
+-- ---- how much is read
+-- nothing is left; or what was left is more than the bytes of a problem, which the status says
+abbrev pub HasEnded : Option (List ℕ) → Option (List ℕ) → Status → Type 0
+HasEnded before after status = IsAtEnd after ⊎ ((status ≡ Limit) × IfSome before (λ all. 1048576 < length all))
+
+-- ---- texts in scope
+-- `solve`, with or without a limit of nodes
+abbrev pub IsSolving : List (List ℕ) → Type 0
+IsSolving words = (most : ℕ) × Asks words (Solve most)
+
+-- a verdict; or a fault of the source or the sink, or want of memory
+abbrev pub IsSettled : Status → Type 0
+IsSettled Sat = Unit {0}
+IsSettled Unsat = Unit {0}
+IsSettled Spent = Unit {0}
+IsSettled ReadFault = Unit {0}
+IsSettled WriteFault = Unit {0}
+IsSettled Memory = Unit {0}
+IsSettled Usage = ⊥
+IsSettled Done = ⊥
+IsSettled Spelling = ⊥
+IsSettled Sort = ⊥
+IsSettled Limit = ⊥
+IsSettled NotBuilt = ⊥
+
+abbrev pub IsSettledCode : ℕ → Type 0
+IsSettledCode number = (s : Status) × IsSettled s × (number ≡ code s)

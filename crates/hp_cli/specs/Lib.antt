@@ -1,3 +1,5 @@
 pub mod Words
 pub mod Transfer
+pub mod Refusals
+pub mod Verdicts
 pub mod Answer

@@ -3,19 +3,27 @@
 /// The cause of an answer.
 #[derive(Clone, Copy, Debug, PartialEq, Eq)]
 pub enum Status {
+    /// What was asked for is done.
+    Done,
     /// The words are no command.
     Usage,
     /// A read failed.
     ReadFault,
     /// A write failed.
     WriteFault,
+    /// The input spells no problem.
+    Spelling,
+    /// An item breaks a rule on names and sorts.
+    Sort,
+    /// A limit is passed.
+    Limit,
     /// A structure satisfies the problem.
     Sat,
     /// The search came to its limit of nodes.
     Spent,
     /// Memory was wanting.
     Memory,
-    /// The input is not of a form that is read so far.
+    /// The problem is of a form that isn't decided so far.
     NotBuilt,
     /// No structure satisfies the problem.
     Unsat,
@@ -30,9 +38,13 @@ impl Status {
         ensures { result ≡ code self }
     {
         match self {
+            Status::Done => 0,
             Status::Usage => 2,
             Status::ReadFault => 3,
             Status::WriteFault => 4,
+            Status::Spelling => 5,
+            Status::Sort => 6,
+            Status::Limit => 8,
             Status::Sat => 10,
             Status::Spent => 11,
             Status::Memory => 12,

@@ -1,18 +1,26 @@
 //! The decision on an input, over values alone.
 
-ghost use Rattle.std.specs.Prelude.{◌≡◌, ◌≤◌, ◌++◌, [], IfOk, List, ℕ, codes, length};
+ghost use Rattle.std.specs.Prelude.{◌≡◌, ◌<◌, ◌≤◌, ◌++◌, [], IfOk, List, ℕ, codes, length};
 ghost use Rattle.std.specs.Fmt.{decimal};
 ghost use Rattle.hp_cert.specs.Refutation.{refutation_text};
 ghost use Rattle.hp_model.specs.Written.{structure_text};
-ghost use Rattle.hp_cli.specs.Answer.{Answers, IsDecided, line, not_built_text};
-ghost use Rattle.hp_cli.specs.Words.{IsSolve};
+ghost use Rattle.hp_read.specs.Spells.{IsFault};
+ghost use Rattle.hp_sorts.specs.Limits.{limit as limit_of};
+ghost use Rattle.hp_cli.specs.Answer.{Does, Solves};
+ghost use Rattle.hp_cli.specs.Refusals.{limit_text, line};
+ghost use Rattle.hp_cli.specs.Verdicts.{IsCounted, IsRead};
+ghost use Rattle.hp_cli.specs.Words.{IsTask};
 
 use crate::answer::Status;
+use crate::refusals;
+use crate::words::Task;
+use hp_ast::{Limit, Problem, Which, print};
 use hp_cert::{Refutation, body, write};
-use hp_lines::{SourceRead, read_source};
 use hp_model::{Structure, write_structure};
 use hp_num::Text;
+use hp_read::{ReadErr, read};
 use hp_solve::{Solved, solve};
+use hp_sorts::{SortErr, check, counts};
 use hp_text::put_whole;
 use std::alloc::{AllocError, Global};
 
@@ -22,6 +30,12 @@ pub struct Answer {
     pub text: Text,
     pub status: Status,
 }
+
+/// The most bytes of a problem.
+const MOST_BYTES: u64 = 1_048_576;
+
+/// The most names of a ground problem.
+const MOST_NAMES: u64 = 4_000;
 
 /// The text of a structure that satisfies the problem.
 fn sat_text(alloc: Global, structure: &Structure) -> Result<Text, AllocError>
@@ -53,40 +67,124 @@ fn spent_text(alloc: Global, most: u64, listing: &Refutation) -> Result<Text, Al
     Ok(out)
 }
 
-/// The line that says that a form is not read so far.
-fn not_built(alloc: Global) -> Result<Answer, AllocError>
-    ensures { IfOk result (λ answer. (answer.status ≡ Status.NotBuilt) × (answer.text ≡ not_built_text)) }
+/// The answer where the input has more bytes than a problem may have.
+pub fn too_long(alloc: Global, task: Task) -> Result<Answer, AllocError>
+    ensures { IfOk result (λ answer. (answer.status ≡ Status.Limit) × ((bytes : List ℕ) → 1048576 < length bytes → Does task bytes answer.text answer.status)) }
 {
+    let limit = Limit {
+        which: Which::Bytes,
+        most: MOST_BYTES,
+        item: 0,
+    };
     Ok(Answer {
-        text: Text::from_slice(alloc, b"not built\n")?,
-        status: Status::NotBuilt,
+        text: refusals::limit(alloc, limit)?,
+        status: Status::Limit,
     })
 }
 
-/// The answer for an input, by a search with at most so many splits and leaves. Want of memory is the one error.
-pub fn decide(alloc: Global, bytes: &[u8], most: u64) -> Result<Answer, AllocError>
+/// The answer where the input spells no problem.
+fn misspelled(alloc: Global, bytes: &[u8], fault: ReadErr, task: Task) -> Result<Answer, AllocError>
     requires size { length bytes.now ≤ 1048576 }
-    requires most { 1 ≤ most }
-    ensures { IfOk result (λ answer. IsDecided answer.status × ((words : List (List ℕ)) → IsSolve words most → Answers words bytes.now answer.text answer.status)) }
+    requires fault { IsFault bytes.now fault }
+    ensures { IfOk result (λ answer. Does task bytes.now answer.text answer.status) }
 {
-    match read_source(alloc, bytes) {
-        SourceRead::Memory => Err(AllocError),
-        SourceRead::Refused => not_built(alloc),
-        SourceRead::Read(source) => match solve(alloc, &source, most) {
-            Solved::Memory => Err(AllocError),
-            Solved::Refused => not_built(alloc),
-            Solved::Sat(structure) => Ok(Answer {
-                text: sat_text(alloc, &structure)?,
-                status: Status::Sat,
+    match fault {
+        ReadErr::Memory => Err(AllocError),
+        fault => Ok(Answer {
+            text: refusals::spelling(alloc, fault)?,
+            status: Status::Spelling,
+        }),
+    }
+}
+
+/// The answer for an input. Want of memory is the one error.
+pub fn decide(alloc: Global, bytes: &[u8], task: Task) -> Result<Answer, AllocError>
+    requires size { length bytes.now ≤ 1048576 }
+    requires most { IsTask task }
+    ensures { IfOk result (λ answer. Does task bytes.now answer.text answer.status) }
+{
+    match read(alloc, bytes) {
+        Err(fault) => misspelled(alloc, bytes, fault, task),
+        Ok(problem) => match task {
+            Task::Print => Ok(Answer {
+                text: print(alloc, &problem)?,
+                status: Status::Done,
             }),
-            Solved::Unsat(refutation) => Ok(Answer {
-                text: unsat_text(alloc, &refutation)?,
-                status: Status::Unsat,
-            }),
-            Solved::Spent(listing) => Ok(Answer {
-                text: spent_text(alloc, most, &listing)?,
-                status: Status::Spent,
-            }),
+            Task::Solve(most) => check_and_solve(alloc, bytes, &problem, most),
         },
     }
+}
+
+/// The answer for a problem by a search with at most so many splits and leaves, where it keeps the rules on names and
+/// sorts and the limits of a text.
+fn check_and_solve(
+    alloc: Global,
+    bytes: &[u8],
+    problem: &Problem,
+    most: u64,
+) -> Result<Answer, AllocError>
+    requires read { IsRead bytes.now problem.now }
+    requires most { 1 ≤ most }
+    ensures { IfOk result (λ answer. Solves most bytes.now answer.text answer.status) }
+{
+    match check(alloc, problem) {
+        Err(SortErr::Memory) => return Err(AllocError),
+        Err(fault) => {
+            return Ok(Answer {
+                text: refusals::sort(alloc, fault)?,
+                status: Status::Sort,
+            });
+        }
+        Ok(_) => {}
+    }
+    match counts(problem) {
+        Some(limit) => Ok(Answer {
+            text: refusals::limit(alloc, limit)?,
+            status: Status::Limit,
+        }),
+        None => settle(alloc, bytes, problem, most),
+    }
+}
+
+/// The answer for a problem that keeps the rules on names and sorts and the limits of a text.
+fn settle(alloc: Global, bytes: &[u8], problem: &Problem, most: u64) -> Result<Answer, AllocError>
+    requires counted { IsCounted bytes.now problem.now }
+    requires most { 1 ≤ most }
+    ensures { IfOk result (λ answer. Solves most bytes.now answer.text answer.status) }
+{
+    match solve(alloc, problem, most) {
+        Solved::Memory => Err(AllocError),
+        Solved::Other => Ok(Answer {
+            text: refusals::not_built(alloc)?,
+            status: Status::NotBuilt,
+        }),
+        Solved::ManyNames => many_names(alloc),
+        Solved::Sat(structure) => Ok(Answer {
+            text: sat_text(alloc, &structure)?,
+            status: Status::Sat,
+        }),
+        Solved::Unsat(refutation) => Ok(Answer {
+            text: unsat_text(alloc, &refutation)?,
+            status: Status::Unsat,
+        }),
+        Solved::Spent(listing) => Ok(Answer {
+            text: spent_text(alloc, most, &listing)?,
+            status: Status::Spent,
+        }),
+    }
+}
+
+/// The answer where the problem has more constants than a ground problem may have.
+fn many_names(alloc: Global) -> Result<Answer, AllocError>
+    ensures { IfOk result (λ answer. (answer.status ≡ Status.Limit) × (answer.text ≡ limit_text (limit_of Which.Names 4000))) }
+{
+    let limit = Limit {
+        which: Which::Names,
+        most: MOST_NAMES,
+        item: 0,
+    };
+    Ok(Answer {
+        text: refusals::limit(alloc, limit)?,
+        status: Status::Limit,
+    })
 }

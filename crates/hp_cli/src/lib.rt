@@ -3,6 +3,7 @@
 
 mod answer;
 mod deciding;
+mod refusals;
 mod running;
 #[cfg(test)]
 mod tests;
@@ -11,4 +12,4 @@ mod words;
 
 pub use answer::Status;
 pub use running::run;
-pub use words::Command;
+pub use words::Task;

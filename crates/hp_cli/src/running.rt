@@ -1,23 +1,23 @@
 //! The run of a command: read all, decide, write all. Only here are sources and sinks in play.
 
-ghost use Rattle.std.specs.Prelude.{◌≡◌, ◌≤◌, ◌⊎◌, length, List, ℕ, map, string_bytes};
-ghost use Rattle.std.specs.Io.KnownBytes.{IsAtEnd, Keeps};
+ghost use Rattle.std.specs.Prelude.{◌≡◌, ◌<◌, ◌≤◌, ◌⊎◌, length, List, ℕ, map, string_bytes};
+ghost use Rattle.std.specs.Io.KnownBytes.{Keeps};
 ghost use Rattle.hp_io.specs.Causes.{Rose};
 ghost use Rattle.hp_cli.specs.declared.answer.Status.{Status};
-ghost use Rattle.hp_cli.specs.Answer.{Answers, code, Fits, IsNotBuilt, IsVerdict, IsVerdictCode, IsWhole, Stands, Told, ToldWritten};
-ghost use Rattle.hp_cli.specs.Words.{IsSolve, IsUsage};
+ghost use Rattle.hp_ast.specs.declared.problem.Problem.{Problem};
+ghost use Rattle.hp_cli.specs.Answer.{Answers, code, Fits, HasEnded, IsDecided, IsSettledCode, IsSolving, IsWhole, Stands, Told, ToldWritten};
+ghost use Rattle.hp_cli.specs.Verdicts.{InScope};
+ghost use Rattle.hp_cli.specs.Words.{Asks, IsTask, IsUsage};
 
 use crate::answer::Status;
-use crate::deciding::decide;
+use crate::deciding::{decide, too_long};
 use crate::transfer::{Input, read_all, write_all};
-use crate::words::Command;
+use crate::words::Task;
 use hp_io::{Sink, Source, WriteErr};
 use std::alloc::Global;
 
 const USAGE: &[u8] =
     b"usage: hpilot solve [--nodes N], check, classify, instances, print, bench A B\n";
-
-const NOT_BUILT: &[u8] = b"not built\n";
 
 /// Writes the whole text of a status, which is then answered.
 fn finish<K: Sink>(sink: &mut K, text: &[u8], status: Status) -> Status
@@ -46,51 +46,54 @@ fn usage<K: Sink>(sink: &mut K) -> Status
     finish(sink, USAGE, Status::Usage)
 }
 
-/// The line that says that a form is not read so far.
-fn refuse<K: Sink>(sink: &mut K) -> Status
-    ensures status { (result ≡ Status.NotBuilt) ⊎ ((result ≡ Status.WriteFault) ⊎ (result ≡ Status.Memory)) }
+/// Writes the answer for an input that is longer than a problem may be.
+fn refuse_long<K: Sink>(alloc: Global, task: Task, sink: &mut K) -> Status
+    ensures status { (result ≡ Status.Limit) ⊎ ((result ≡ Status.WriteFault) ⊎ (result ≡ Status.Memory)) }
     ensures cause { result ≡ Status.WriteFault → Rose (K.faults sink.old) (K.faults sink.new) }
     ensures later { K.faults sink.old ≤ K.faults sink.new }
-    ensures content { (words : List (List ℕ)) (bytes : List ℕ) (most : ℕ) → IsSolve words most → IsNotBuilt bytes
+    ensures content { (words : List (List ℕ)) (bytes : List ℕ) → Asks words task → 1048576 < length bytes
         → ToldWritten (K.written sink.old) (K.written sink.new) (λ out. Stands words bytes out result) }
 {
-    finish(sink, NOT_BUILT, Status::NotBuilt)
-}
-
-/// Writes the answer for an input.
-fn answer<K: Sink>(alloc: Global, bytes: &[u8], most: u64, sink: &mut K) -> Status
-    requires size { length bytes.now ≤ 1048576 }
-    requires most { 1 ≤ most }
-    ensures not_usage { result ≡ Status.Usage → ⊥ }
-    ensures not_read { result ≡ Status.ReadFault → ⊥ }
-    ensures cause { result ≡ Status.WriteFault → Rose (K.faults sink.old) (K.faults sink.new) }
-    ensures later { K.faults sink.old ≤ K.faults sink.new }
-    ensures content { (words : List (List ℕ)) (input : List ℕ) → IsSolve words most → input ≡ bytes.now
-        → ToldWritten (K.written sink.old) (K.written sink.new) (λ out. Stands words input out result) }
-{
-    match decide(alloc, bytes, most) {
+    match too_long(alloc, task) {
         Err(_) => Status::Memory,
         Ok(answer) => finish(sink, answer.text.as_slice(), answer.status),
     }
 }
 
-/// Reads the input of a search and writes its answer.
-fn solve<S: Source, K: Sink>(alloc: Global, most: u64, source: &mut S, sink: &mut K) -> Status
-    requires { 1 ≤ most }
+/// Writes the answer for an input.
+fn answer<K: Sink>(alloc: Global, bytes: &[u8], task: Task, sink: &mut K) -> Status
+    requires size { length bytes.now ≤ 1048576 }
+    requires task { IsTask task }
+    ensures not_usage { result ≡ Status.Usage → ⊥ }
+    ensures not_read { result ≡ Status.ReadFault → ⊥ }
+    ensures cause { result ≡ Status.WriteFault → Rose (K.faults sink.old) (K.faults sink.new) }
+    ensures later { K.faults sink.old ≤ K.faults sink.new }
+    ensures content { (words : List (List ℕ)) (input : List ℕ) → Asks words task → input ≡ bytes.now
+        → ToldWritten (K.written sink.old) (K.written sink.new) (λ out. Stands words input out result) }
+{
+    match decide(alloc, bytes, task) {
+        Err(_) => Status::Memory,
+        Ok(answer) => finish(sink, answer.text.as_slice(), answer.status),
+    }
+}
+
+/// Reads the input of a task and writes its answer.
+fn perform<S: Source, K: Sink>(alloc: Global, task: Task, source: &mut S, sink: &mut K) -> Status
+    requires { IsTask task }
     ensures not_usage { result ≡ Status.Usage → ⊥ }
     ensures read_fault { result ≡ Status.ReadFault → Rose (S.faults source.old) (S.faults source.new) }
     ensures write_fault { result ≡ Status.WriteFault → Rose (K.faults sink.old) (K.faults sink.new) }
     ensures source_count { S.faults source.old ≤ S.faults source.new }
     ensures sink_count { K.faults sink.old ≤ K.faults sink.new }
-    ensures content { (words : List (List ℕ)) → IsSolve words most
+    ensures content { (words : List (List ℕ)) → Asks words task
         → Told (S.left source.old) (K.written sink.old) (K.written sink.new) (λ bytes out. Stands words bytes out result) }
-    ensures end { IsVerdict result → IsAtEnd (S.left source.new) }
+    ensures end { IsDecided result → HasEnded (S.left source.old) (S.left source.new) result }
 {
     match read_all(alloc, source) {
         Input::Failed => Status::ReadFault,
         Input::Memory => Status::Memory,
-        Input::Long => refuse(sink),
-        Input::All(bytes) => answer(alloc, &bytes, most, sink),
+        Input::Long => refuse_long(alloc, task, sink),
+        Input::All(bytes) => answer(alloc, &bytes, task, sink),
     }
 }
 
@@ -110,27 +113,34 @@ fn outcome<S: Source, K: Sink>(
     ensures sink_count { K.faults sink.old ≤ K.faults sink.new }
     ensures content { Told (S.left source.old) (K.written sink.old) (K.written sink.new)
         (λ bytes out. Stands (map string_bytes words.now) bytes out result) }
-    ensures end { IsVerdict result → IsAtEnd (S.left source.new) }
+    ensures end { IsDecided result → HasEnded (S.left source.old) (S.left source.new) result }
 {
-    match Command::from_words(words) {
-        Command::Usage => usage(sink),
-        Command::Solve(most) => solve(alloc, most, source, sink),
+    match Task::from_words(words) {
+        None => usage(sink),
+        Some(task) => perform(alloc, task, source, sink),
     }
 }
 
 /// Does what the words ask for and answers the exit status.
 ///
-/// - 2: the words are neither `solve` nor `solve --nodes N`. Nothing is read.
+/// - 0: the text is the printed form of the problem that the input spells; `print` asks for no more than that.
+/// - 2: the words are none of `solve`, `solve --nodes N` and `print`. Nothing is read.
 /// - 3: a read failed. Nothing is written.
-/// - 13: the input is no text of the form that is read so far, or longer than 1,048,576 bytes, of which one more is then
-///   read and the rest left.
+/// - 5: the input spells no problem. The line says `syntax`, `long-numeral` or `deep` and the offset of the fault.
+/// - 6: an item breaks a rule on names and sorts. The line names the first such item and the first rule that it breaks.
+/// - 8: a limit is passed: 1,048,576 bytes, of which one more is then read and the rest left; 2,000 clauses; 6 variables of a
+///   clause; 4 arguments of a function; 4,000 names.
+/// - 13: the problem is of a form that isn't decided so far: it declares something else than index constants, or a clause
+///   has variables, or an atom is of another sort.
 /// - 10: the text is `satisfiable` and a structure that satisfies the problem.
 /// - 20: no structure satisfies the problem, and the text is a refutation.
 /// - 11: the search came to its limit of splits and leaves, and the text is its honest tree.
 /// - 4: a write failed. A part from the front of the text is written.
 /// - 12: memory was wanting. Nothing is written, or a part from the front where the sink wanted it.
 ///
-/// Writing begins when the whole answer is there.
+/// Of several refusals the first comes in this order: usage; a read fault, and the limit of bytes; spelling; names and
+/// sorts; the limits of clauses, variables and arguments; the form; the limit of names. Writing begins when the whole
+/// answer is there.
 pub fn run<S: Source, K: Sink>(alloc: Global, words: &[String], source: &mut S, sink: &mut K) -> u8
     // No other status is answered.
     ensures statuses { (s : Status) × (result ≡ code s) }
@@ -146,8 +156,11 @@ pub fn run<S: Source, K: Sink>(alloc: Global, words: &[String], source: &mut S, 
     // What was written, where source and sink tell.
     ensures content { Told (S.left source.old) (K.written sink.old) (K.written sink.new)
         (λ bytes out. Fits (map string_bytes words.now) bytes out result) }
-    // A verdict comes only after the whole input was read.
-    ensures end { IsVerdictCode result → IsAtEnd (S.left source.new) }
+    // A text in scope gets a verdict, unless a stream fails or memory is wanting.
+    ensures settled { IsSolving (map string_bytes words.now) → Told (S.left source.old) (K.written sink.old) (K.written sink.new)
+        (λ bytes _. (p : Problem) → InScope bytes p → IsSettledCode result) }
+    // Nothing is left to read, unless the input is too long.
+    ensures end { (s : Status) → IsDecided s → result ≡ code s → HasEnded (S.left source.old) (S.left source.new) s }
 {
     outcome(alloc, words, source, sink).code()
 }

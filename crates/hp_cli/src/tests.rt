@@ -62,24 +62,95 @@ impl Sink for Sips {
     }
 }
 
-const LATE: &[u8] = b"const i: idx;\nconst j: idx;\nquery i <= j - 1;\nquery j <= i - 1;\n";
+const LATE: &[u8] = b"const i, j: idx;\nquery i <= j - 1;\nquery j <= i - 1;\n";
 
 #[test]
 fn texts_are_answered(rt: HostRuntime) -> Result<(), Fail> {
-    let table: [(&[u8], u8, &[u8]); 5] = [
-        (b"", 10, b"satisfiable\nuniverse 1\n"),
+    let table: [(&str, &[u8], u8, &[u8]); 8] = [
+        ("solve", b"", 10, b"satisfiable\nuniverse 1\n"),
         (
+            "solve",
             b"const i: idx;\nquery i <= i - 1;\n",
             20,
             b"unsatisfiable\nline 1 clause 1: 0 <= -1\nsplit 1\nleaf idx +1\n",
         ),
         (
-            b"const i: idx;\nconst j: idx;\nquery i = 3;\nquery j = i + 2;\n",
+            "solve",
+            b"const i, j: idx; query i = 3; query j = i + 2;",
             10,
             b"satisfiable\nuniverse 1\nconst i = 3\nconst j = 5\n",
         ),
-        (b"query 1 < 0;\n", 13, b"not built\n"),
-        (b"const i: idx;\nconst i: idx;\n", 13, b"not built\n"),
+        (
+            "solve",
+            b"query false;",
+            20,
+            b"unsatisfiable\nline 1 clause 1: false\nsplit 1\n",
+        ),
+        (
+            "print",
+            b"  query   1<0 ; # end",
+            0,
+            b"profile 1;\nquery 1 < 0;\n",
+        ),
+        (
+            "print",
+            b"query c < 0; fun f(num,ptr):num level 99;",
+            5,
+            b"syntax 13\n",
+        ),
+        (
+            "print",
+            b"query f(c,1/2)!=-x;",
+            0,
+            b"profile 1;\nquery f(c, 1/2) != -x;\n",
+        ),
+        ("solve", b"query 1 < 0;", 13, b"not built\n"),
+    ];
+    for (word, text, status, wanted) in table {
+        let (found, written) = answer(rt.alloc(), &[word], text)?;
+        assert_eq!(rt; found, status);
+        assert_eq!(rt; written.as_slice(), wanted);
+    }
+    Ok(())
+}
+
+#[test]
+fn refusals_come_in_order(rt: HostRuntime) -> Result<(), Fail> {
+    let table: [(&[u8], u8, &[u8]); 14] = [
+        (b"const c: num;\nquery c < ", 5, b"syntax 24\n"),
+        (b"query 1000000000000000000 < 0;", 5, b"long-numeral 6\n"),
+        (
+            b"query ((((((((((((((((((((((((((((((((((((((((((((((((((((((((((((((((((",
+            5,
+            b"deep 70\n",
+        ),
+        (b"const c: num; const c: idx;", 6, b"sort 2 twice\n"),
+        (b"query c < 0;", 6, b"sort 1 unknown\n"),
+        (b"fun f(num): num level 17;", 6, b"sort 1 level\n"),
+        (
+            b"fun f(num): num level 1; query f(1, 2) = 0;",
+            6,
+            b"sort 2 arity\n",
+        ),
+        (b"const u: ptr; query u < null;", 6, b"sort 2 mismatch\n"),
+        (
+            b"clause [a:num, b:num, c:num, d:num, e:num, f:num, g:num] a < b;",
+            8,
+            b"limit variables 6\n",
+        ),
+        (
+            b"clause [a:num, b:num, c:num, d:num, e:num, f:num, g:num] a < x;",
+            6,
+            b"sort 1 unknown\n",
+        ),
+        (
+            b"fun f(num, num, num, num, num): num level 1;",
+            8,
+            b"limit arguments 4\n",
+        ),
+        (b"const c: num;", 13, b"not built\n"),
+        (b"const i: idx; clause [x:idx] x < i;", 13, b"not built\n"),
+        (b"const u: ptr; query u = null;", 13, b"not built\n"),
     ];
     for (text, status, wanted) in table {
         let (found, written) = answer(rt.alloc(), &["solve"], text)?;
@@ -90,21 +161,62 @@ fn texts_are_answered(rt: HostRuntime) -> Result<(), Fail> {
 }
 
 #[test]
-fn other_texts_are_not_built(rt: HostRuntime) -> Result<(), Fail> {
-    let table: [&[u8]; 9] = [
-        b"const i:idx;\n",
-        b"const i: idx;\r\n",
-        b"const i: idx;",
-        b"const i: idx;\nquery i <= 1000000000000000000;\n",
-        b"const i: idx;\nquery i <= j;\n",
-        b"const null: idx;\n",
-        b"const i: idx;\nquery i <= i +1;\n",
-        b"query i <= 0;\nconst i: idx;\n",
-        b"const i: idx;\nquery 0 <= i;\n",
+fn limits_are_told(rt: HostRuntime) -> Result<(), Fail> {
+    let mut blanks = Vec::new(rt.alloc());
+    for _at in 0..1_048_577 {
+        blanks.push(b' ')?;
+    }
+    let mut names = String::from_str(rt.alloc(), "const c")?;
+    for at in 0..4_000 {
+        names = format!(in rt.alloc(); "{names}, c{at}")?;
+    }
+    let constants = format!(in rt.alloc(); "{names}: idx;")?;
+    let fractions = format!(in rt.alloc(); "{names}: num;")?;
+    let mut queries = Vec::new(rt.alloc());
+    for _at in 0..2_001 {
+        queries.extend_from_slice(b"query false;")?;
+    }
+    let table: [(&[u8], u8, &[u8]); 5] = [
+        (blanks.as_slice(), 8, b"limit bytes 1048576\n"),
+        (&blanks[1..], 10, b"satisfiable\nuniverse 1\n"),
+        (constants.as_bytes(), 8, b"limit names 4000\n"),
+        (fractions.as_bytes(), 13, b"not built\n"),
+        (queries.as_slice(), 8, b"limit clauses 2000\n"),
     ];
-    for text in table {
-        let (found, _) = answer(rt.alloc(), &["solve"], text)?;
-        assert_eq!(rt; found, 13);
+    for (text, status, wanted) in table {
+        let (found, written) = answer(rt.alloc(), &["solve"], text)?;
+        assert_eq!(rt; found, status);
+        assert_eq!(rt; written.as_slice(), wanted);
+    }
+    Ok(())
+}
+
+#[test]
+fn relations_and_guards(rt: HostRuntime) -> Result<(), Fail> {
+    // whether 2, 3 and 4 stand in the relation to 3
+    let table: [(&str, [bool; 3]); 6] = [
+        ("<=", [true, true, false]),
+        ("<", [true, false, false]),
+        ("=", [false, true, false]),
+        ("!=", [true, false, true]),
+        (">=", [false, true, true]),
+        (">", [false, false, true]),
+    ];
+    for (relation, holds) in table {
+        for at in 0..3 {
+            let (yes, no) = if holds[at] { (10, 20) } else { (20, 10) };
+            let value = at + 2;
+            let head = format!(in rt.alloc();
+                "const i: idx; query i {relation} 3; query i = {value};"
+            )?;
+            let (found, _) = answer(rt.alloc(), &["solve"], head.as_bytes())?;
+            assert_eq!(rt; found, yes, "{head}");
+            let guard = format!(in rt.alloc();
+                "const i: idx; query i {relation} 3 -> false; query {value} = i;"
+            )?;
+            let (found, _) = answer(rt.alloc(), &["solve"], guard.as_bytes())?;
+            assert_eq!(rt; found, no, "{guard}");
+        }
     }
     Ok(())
 }

@@ -1,16 +1,18 @@
 //! What the words of the command line ask for.
 
-ghost use Rattle.std.specs.Prelude.{◌≡◌, ◌≤◌, ◌↔◌, IfSome, IsTrue, ℕ, map, string_bytes, Some};
+ghost use Rattle.std.specs.Prelude.{◌≡◌, ◌≤◌, ◌↔◌, IfSome, IsTrue, MatchOption, ℕ, map, string_bytes, Some};
 ghost use Rattle.std.specs.Fmt.{decimal};
-ghost use Rattle.hp_cli.specs.Words.{IsCommand};
+ghost use Rattle.hp_cli.specs.Words.{Asks, IsUsage};
 
 use itoa::Buffer;
 
-/// What is to be done: a search with a limit on its nodes, or to say how the program is used.
+/// What is to be done with the problem that the input spells.
 #[derive(Clone, Copy, Debug, PartialEq, Eq)]
-pub enum Command {
+pub enum Task {
+    /// To decide it by a search with at most so many nodes.
     Solve(u64),
-    Usage,
+    /// To print it.
+    Print,
 }
 
 /// The limit on the nodes of a search where the words name none.
@@ -42,30 +44,32 @@ fn nodes(word: &String) -> Option<u64>
     }
 }
 
-impl Command {
-    /// The command that the words spell.
-    pub fn from_words(words: &[String]) -> Command
-        ensures { IsCommand (map string_bytes words.now) result }
+impl Task {
+    /// What the words ask for, or `None` where they are no command.
+    pub fn from_words(words: &[String]) -> Option<Task>
+        ensures { MatchOption result (IsUsage (map string_bytes words.now)) (Asks (map string_bytes words.now)) }
     {
         match words {
             [first] => {
                 if is_text(first, "solve") {
-                    Command::Solve(DEFAULT_NODES)
+                    Some(Task::Solve(DEFAULT_NODES))
+                } else if is_text(first, "print") {
+                    Some(Task::Print)
                 } else {
-                    Command::Usage
+                    None
                 }
             }
             [first, option, number] => {
                 if is_text(first, "solve") && is_text(option, "--nodes") {
                     match nodes(number) {
-                        Some(most) => Command::Solve(most),
-                        None => Command::Usage,
+                        Some(most) => Some(Task::Solve(most)),
+                        None => None,
                     }
                 } else {
-                    Command::Usage
+                    None
                 }
             }
-            _ => Command::Usage,
+            _ => None,
         }
     }
 }

@@ -3,7 +3,6 @@ use Rattle.std.proofs.Common.{◌≡◌, ◌<◌, ◌≤◌, ℕ, ◌+◌, List,
 use Rattle.std.specs.Str.{bytes_eq}
 use Rattle.std.specs.List.{list_any, All}
 use Rattle.std.proofs.lemmas.List.{drop_more, take_more, get_or-map, length-map, map-append}
-use Rattle.hp_base.specs.declared.names.Constant.{Constant}
 use Rattle.hp_norm.specs.Numbered.{is_among, AreDistinct}
 use Rattle.std.proofs.lemmas.List.Elements.{All-nil, All-cons, All-append}
 use Rattle.hp_ast.specs.declared.problem.Decl.{Decl}
@@ -55,25 +54,23 @@ repeated (n ∷ ns) ms x d e = by (bytes_eq x n) refl (λ among. repeated ns ms 
     by true t rest = let s : x ≡ n = same_text x n t in not_both _ d.0 (subst (λ (y : List ℕ). is_among n (ns ++ y ∷ ms) ≡ true) (sym s) (among_middle n ns ms))
     by false t rest = rest (sym (ap (λ a. a || list_any (bytes_eq x) ns) t) ∙ e)
 
--- the names and constants of the first declarations
-pub record AreNamesSoFar (consts : List (List ℕ)) (i : ℕ) (index : List (List ℕ)) (constants : List Constant) : Type 0 where
+-- the names of the first declarations
+pub record AreNamesSoFar (consts : List (List ℕ)) (i : ℕ) (index : List (List ℕ)) : Type 0 where
   pub indexed : index ≡ take i consts
   pub distinct : AreDistinct (take i consts)
-  pub declared : constants ≡ map index_constant (take i consts)
 
 pub twice : (consts : List (List ℕ)) (i : ℕ) (d : List ℕ) → i < length consts → is_among (get_or consts i d) (take i consts) ≡ true → AreDistinct consts → ⊥
 twice consts i d h e all =
     let split : consts ≡ take i consts ++ get_or consts i d ∷ drop (i + 1) consts = sym (take-append-drop i consts) ∙ ap (λ (r : List (List ℕ)). take i consts ++ r) (drop_more consts i d h) in
     repeated (take i consts) (drop (i + 1) consts) (get_or consts i d) (subst AreDistinct split all) e
 
-pub name_more : (consts : List (List ℕ)) (i : ℕ) (d : List ℕ) (index : List (List ℕ)) (constants : List Constant) → i < length consts → is_among (get_or consts i d) index ≡ false
-    → AreNamesSoFar consts i index constants → AreNamesSoFar consts (i + 1) (index ++ get_or consts i d ∷ []) (constants ++ index_constant (get_or consts i d) ∷ [])
-name_more consts i d index constants h e so_far =
+pub name_more : (consts : List (List ℕ)) (i : ℕ) (d : List ℕ) (index : List (List ℕ)) → i < length consts → is_among (get_or consts i d) index ≡ false
+    → AreNamesSoFar consts i index → AreNamesSoFar consts (i + 1) (index ++ get_or consts i d ∷ [])
+name_more consts i d index h e so_far =
     let more = take_more consts i d h in
     record {
       indexed = ap (λ (ns : List (List ℕ)). ns ++ get_or consts i d ∷ []) so_far.indexed ∙ sym more;
       distinct = subst AreDistinct (sym more) (distinct_more (take i consts) (get_or consts i d) so_far.distinct (subst (λ (ns : List (List ℕ)). is_among (get_or consts i d) ns ≡ false) so_far.indexed e));
-      declared = ap (λ (cs : List Constant). cs ++ index_constant (get_or consts i d) ∷ []) so_far.declared ∙ sym (ap (map index_constant) more ∙ map-append index_constant (take i consts) (get_or consts i d ∷ []));
     }
 
 -- ---- the same of declarations
@@ -87,25 +84,31 @@ module _ (decls : List Decl) (i : ℕ) (d : Decl) (h : i < length decls) where
   pub twice_declared : is_among (decl_name (get_or decls i d)) (take i (map decl_name decls)) ≡ true → AreDistinct (map decl_name decls) → ⊥
   twice_declared e all = twice (map decl_name decls) i [] within (subst (λ (n : List ℕ). is_among n (take i (map decl_name decls)) ≡ true) (sym name_at) e) all
 
-  pub decl_more : (index : List (List ℕ)) (constants : List Constant) → is_among (decl_name (get_or decls i d)) index ≡ false → AreNamesSoFar (map decl_name decls) i index constants
-      → AreNamesSoFar (map decl_name decls) (i + 1) (index ++ decl_name (get_or decls i d) ∷ []) (constants ++ index_constant (decl_name (get_or decls i d)) ∷ [])
-  decl_more index constants e so_far =
-      subst (λ (n : List ℕ). AreNamesSoFar (map decl_name decls) (i + 1) (index ++ n ∷ []) (constants ++ index_constant n ∷ [])) name_at
-      (name_more (map decl_name decls) i [] index constants within (subst (λ (n : List ℕ). is_among n index ≡ false) (sym name_at) e) so_far)
+  pub decl_more : (index : List (List ℕ)) → is_among (decl_name (get_or decls i d)) index ≡ false → AreNamesSoFar (map decl_name decls) i index
+      → AreNamesSoFar (map decl_name decls) (i + 1) (index ++ decl_name (get_or decls i d) ∷ [])
+  decl_more index e so_far =
+      subst (λ (n : List ℕ). AreNamesSoFar (map decl_name decls) (i + 1) (index ++ n ∷ [])) name_at
+      (name_more (map decl_name decls) i [] index within (subst (λ (n : List ℕ). is_among n index ≡ false) (sym name_at) e) so_far)
+
+  -- the constants of the first declarations, with one more
+  pub constant_more : map index_constant (map decl_name (take (i + 1) decls)) ≡ map index_constant (map decl_name (take i decls)) ++ index_constant (decl_name (get_or decls i d)) ∷ []
+  constant_more =
+      ap (λ (ds : List Decl). map index_constant (map decl_name ds)) (take_more decls i d h)
+      ∙ ap (map index_constant) (map-append decl_name (take i decls) (get_or decls i d ∷ []))
+      ∙ map-append index_constant (map decl_name (take i decls)) (decl_name (get_or decls i d) ∷ [])
 
   pub decls_more : All IsIndexDecl (take i decls) → IsIndexDecl (get_or decls i d) → All IsIndexDecl (take (i + 1) decls)
   decls_more all is =
       subst (All IsIndexDecl) (sym (take_more decls i d h))
       (All-append IsIndexDecl (take i decls) (get_or decls i d ∷ []) all (All-cons IsIndexDecl (get_or decls i d) [] is (All-nil IsIndexDecl)))
 
-pub all_names : (decls : List Decl) (i : ℕ) (index : List (List ℕ)) (constants : List Constant) → length decls ≤ i → AreNamesSoFar (map decl_name decls) i index constants
+pub all_names : (decls : List Decl) (i : ℕ) (index : List (List ℕ)) → length decls ≤ i → AreNamesSoFar (map decl_name decls) i index
     → All IsIndexDecl (take i decls)
-    → (index ≡ map decl_name decls) × AreDistinct (map decl_name decls) × All IsIndexDecl decls × (constants ≡ map index_constant (map decl_name decls))
-all_names decls i index constants h so_far all =
+    → (index ≡ map decl_name decls) × AreDistinct (map decl_name decls) × All IsIndexDecl decls
+all_names decls i index h so_far all =
     let within : length (map decl_name decls) ≤ i = omega (arith, h, length-map decls decl_name) in
     let e = take_end (map decl_name decls) i within in (
       so_far.indexed ∙ e,
       subst AreDistinct e so_far.distinct,
       subst (All IsIndexDecl) (take_end decls i h) all,
-      so_far.declared ∙ ap (map index_constant) e,
     )

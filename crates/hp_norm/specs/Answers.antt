@@ -1,5 +1,5 @@
 -- What each call answers.
-use Rattle.std.specs.Prelude.{◌≡◌, ℕ, List, [], ◌++◌, map, Option, true}
+use Rattle.std.specs.Prelude.{◌≡◌, ℕ, ◌<◌, ◌≤◌, List, [], ◌++◌, length, map, Option, true}
 use Rattle.std.specs.List.{All, flat_map}
 use Rattle.hp_base.specs.declared.literal.Lit.{Lit}
 use Rattle.hp_ast.specs.declared.problem.Atom.{Atom}
@@ -15,14 +15,15 @@ use Rattle.hp_norm.specs.declared.grounding.LineRead.{LineRead}
 use Rattle.hp_norm.specs.declared.grounding.LineRead.TheVariants as line
 use Rattle.hp_norm.specs.declared.grounding.LinesRead.{LinesRead}
 use Rattle.hp_norm.specs.declared.grounding.LinesRead.TheVariants as lines
-use Rattle.hp_norm.specs.declared.grounding.NamesRead.{NamesRead}
-use Rattle.hp_norm.specs.declared.grounding.NamesRead.TheVariants as names
+use Rattle.hp_norm.specs.declared.grounding.IndexRead.{IndexRead}
+use Rattle.hp_norm.specs.declared.grounding.IndexRead.TheVariants as index
 use Rattle.hp_norm.specs.declared.grounding.GroundRead.{GroundRead}
 use Rattle.hp_norm.specs.declared.grounding.GroundRead.TheVariants as ground
 use Rattle.hp_norm.specs.Numbered.{AreDistinct}
 use Rattle.hp_norm.specs.Literals.{HasSmallBound, IsIndexAtom, IsLightAtom, are_index_sides, atom_literals, sides_literals}
 use Rattle.hp_norm.specs.Ground.{IsGroundOf, IsIndexClause, IsIndexDecl, IsIndexProblem, IsLight, IsLightClause, decl_name, index_constant, line_of, lines_from}
 use Rattle.hp_base.specs.declared.line.Line.{Line}
+use Rattle.hp_base.specs.Names.{NameList}
 
 -- ---- literals behind those that are there
 abbrev pub Pushed : List Lit → List Lit → List Lit → Step → Type 0
@@ -69,16 +70,28 @@ LinesFound names clauses lines.Wide = All IsLightClause clauses → ⊥
 LinesFound names clauses lines.Memory = Unit {0}
 
 -- ---- names
-abbrev pub NamesFound : List Decl → NamesRead → Type 0
-NamesFound decls (names.Read index found) =
-    (index ≡ map decl_name decls) × AreDistinct (map decl_name decls) × All IsIndexDecl decls
-    × (found.constants ≡ map index_constant (map decl_name decls)) × (found.definitions ≡ [])
-NamesFound decls names.Other = All IsIndexDecl decls → AreDistinct (map decl_name decls) → ⊥
-NamesFound decls names.Memory = Unit {0}
+abbrev pub IndexFound : List Decl → IndexRead → Type 0
+IndexFound decls (index.Read names) = (names ≡ map decl_name decls) × AreDistinct (map decl_name decls) × All IsIndexDecl decls
+IndexFound decls index.Other = All IsIndexDecl decls → AreDistinct (map decl_name decls) → ⊥
+IndexFound decls index.Memory = Unit {0}
+
+-- the declared names as index constants, and no definitions
+pub record AreNamesOf (decls : List Decl) (found : NameList) : Type 0 where
+  pub constants : found.constants ≡ map index_constant (map decl_name decls)
+  pub definitions : found.definitions ≡ []
 
 -- ---- the ground problem
+-- these lines over the declared names, or more names than a ground problem may have
+abbrev pub NamedAs : List Decl → List Line → GroundRead → Type 0
+NamedAs decls ls (ground.Read g) = AreNamesOf decls g.names × (g.lines ≡ ls) × (length decls ≤ 4000)
+NamedAs decls ls ground.Other = ⊥
+NamedAs decls ls ground.ManyNames = 4000 < length decls
+NamedAs decls ls ground.Wide = ⊥
+NamedAs decls ls ground.Memory = Unit {0}
+
 abbrev pub GroundFound : Problem → GroundRead → Type 0
-GroundFound p (ground.Read g) = IsGroundOf p g
+GroundFound p (ground.Read g) = IsGroundOf p g × (length p.decls ≤ 4000)
 GroundFound p ground.Other = IsIndexProblem p → ⊥
+GroundFound p ground.ManyNames = IsIndexProblem p × (4000 < length p.decls)
 GroundFound p ground.Wide = IsLight p → ⊥
 GroundFound p ground.Memory = Unit {0}

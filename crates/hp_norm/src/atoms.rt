@@ -1,6 +1,6 @@
 //! The literals of atoms: each says a bound on the difference of two constants.
 
-ghost use Rattle.std.specs.Prelude.{◌≡◌, ◌≤◌, ◌-ℤ◌, ◌∷◌, [], ◌||◌, MatchOption, length};
+ghost use Rattle.std.specs.Prelude.{◌≡◌, ◌<◌, ◌^◌, ◌-ℤ◌, ◌∷◌, [], ◌||◌, MatchOption, length};
 ghost use Rattle.hp_base.specs.declared.literal.Lit.TheVariants.{Idx};
 ghost use Rattle.hp_ast.specs.declared.problem.Cmp.TheVariants.{Ne};
 ghost use Rattle.hp_norm.specs.Forms.{IsSmall, IsSmallShape, shape_form};
@@ -170,7 +170,7 @@ fn push_sides(lits: &mut List<Lit>, cmp: Cmp, left: Shape, right: Shape) -> Step
 
 /// Adds the literals of an atom.
 fn push_atom(index: &NameIndex, lits: &mut List<Lit>, side: Side, atom: &Atom) -> Step
-    requires { length index.now ≤ 4000 }
+    requires { length index.now < 2 ^ 28 }
     ensures { AtomPushed index.now side atom.now lits.old lits.new result }
 {
     match collect(index, &atom.left) {
@@ -184,7 +184,7 @@ fn push_atom(index: &NameIndex, lits: &mut List<Lit>, side: Side, atom: &Atom) -
 
 /// Adds the literals of atoms in their order.
 pub fn push_atoms(index: &NameIndex, lits: &mut List<Lit>, side: Side, atoms: &[Atom]) -> Step
-    requires { length index.now ≤ 4000 }
+    requires { length index.now < 2 ^ 28 }
     ensures { AtomsPushed index.now side atoms.now lits.old lits.new result }
 {
     for atom in atoms {

@@ -2,7 +2,7 @@
 //!
 //! No number that is collected passes 10^25 in magnitude, so that no sum of two of them wraps.
 
-ghost use Rattle.std.specs.Prelude.{◌≡◌, ◌≤◌, ◌^◌, ◌+ℤ◌, MatchOption, length};
+ghost use Rattle.std.specs.Prelude.{◌≡◌, ◌<◌, ◌≤◌, ◌^◌, ◌+ℤ◌, MatchOption, length};
 ghost use Rattle.hp_norm.specs.Numbered.{number};
 ghost use Rattle.hp_norm.specs.Forms.{IsSmall, IsSmallShape, minus_shape, named_shape, neg_shape, number_shape, plus_shape, shape_form, shape_of, shifted, weight};
 
@@ -143,7 +143,7 @@ fn number(n: Frac) -> Option<Shape>
 
 /// A name, which has to be one of the constants.
 fn named(index: &NameIndex, name: &[u8]) -> Shape
-    requires { length index.now ≤ 4000 }
+    requires { length index.now < 2 ^ 28 }
     ensures shape { result ≡ named_shape (number index.now name.now) }
     ensures small { IsSmallShape (named_shape (number index.now name.now)) }
 {
@@ -159,7 +159,7 @@ fn named(index: &NameIndex, name: &[u8]) -> Shape
 /// What a term is among the index terms over these constants, or `None` where its numbers, added together by
 /// magnitude, pass 10^25.
 pub fn collect(index: &NameIndex, term: &Term) -> Option<Shape>
-    requires { length index.now ≤ 4000 }
+    requires { length index.now < 2 ^ 28 }
     ensures { MatchOption result (weight term.now ≤ 10 ^ 25 → ⊥) (λ shape. (shape ≡ shape_of index.now term.now) × IsSmallShape (shape_of index.now term.now)) }
 {
     match term {

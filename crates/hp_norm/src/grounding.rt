@@ -1,15 +1,18 @@
 //! From an index problem to its ground lines: each clause becomes a line.
 
-ghost use Rattle.std.specs.Prelude.{◌≡◌, ◌≤◌, MatchOption, length};
+ghost use Rattle.std.specs.Prelude.{◌≡◌, ◌<◌, ◌≤◌, ◌^◌, IfOk, MatchOption, length};
 ghost use Rattle.hp_norm.specs.Ground.{IsIndexDecl, decl_name};
-ghost use Rattle.hp_norm.specs.Answers.{GroundFound, LineFound, LinesFound, NamesFound};
+ghost use Rattle.hp_norm.specs.Answers.{AreNamesOf, GroundFound, IndexFound, LineFound, LinesFound, NamedAs};
 
 use crate::atoms::{Side, Step, push_atoms};
 use crate::names::NameIndex;
 use hp_ast::{Clause, Decl, Problem, Sort};
 use hp_base::{Ground, Line, Lit, Names, Origin};
 use hp_num::{List, Text};
-use std::alloc::Global;
+use std::alloc::{AllocError, Global};
+
+/// The most names of a ground problem.
+const MOST_NAMES: usize = 4_000;
 
 /// A line; a clause that isn't over index constants alone; a number that is too large; or want of memory.
 #[derive(Drop)]
@@ -30,11 +33,11 @@ pub enum LinesRead {
     Memory,
 }
 
-/// The constants, to be found by their bytes and by their numbers; a declaration that is no index constant, or a name
-/// that is declared twice; or want of memory.
+/// The constants, to be found by their bytes; a declaration that is no index constant, or a name that is declared
+/// twice; or want of memory.
 #[derive(Drop)]
-pub enum NamesRead {
-    Read { index: NameIndex, names: Names },
+pub enum IndexRead {
+    Read(NameIndex),
     Other,
     Memory,
 }
@@ -47,6 +50,8 @@ pub enum GroundRead {
     /// A declaration is no index constant, a name is declared twice, a clause has variables, or an atom isn't of sort
     /// idx over the constants.
     Other,
+    /// The problem is over index constants, of which it declares more than 4,000.
+    ManyNames,
     /// The numbers of an atom, added together by magnitude, come to 10^25 or more.
     Wide,
     /// Memory is short.
@@ -55,7 +60,7 @@ pub enum GroundRead {
 
 /// The line of the clause of this number.
 fn line_of(alloc: Global, index: &NameIndex, number: u32, clause: &Clause) -> LineRead
-    requires { length index.now ≤ 4000 }
+    requires { length index.now < 2 ^ 28 }
     ensures { LineFound index.now number clause.now result }
 {
     if clause.vars.len() != 0 {
@@ -80,7 +85,7 @@ fn line_of(alloc: Global, index: &NameIndex, number: u32, clause: &Clause) -> Li
 
 /// The lines of the clauses, numbered from 1.
 fn lines_of(alloc: Global, index: &NameIndex, clauses: &[Clause]) -> LinesRead
-    requires few { length index.now ≤ 4000 }
+    requires few { length index.now < 2 ^ 28 }
     requires most { length clauses.now ≤ 2000 }
     ensures { LinesFound index.now clauses.now result }
 {
@@ -116,33 +121,45 @@ fn index_name(decl: &Decl) -> Option<&Text>
     }
 }
 
-/// The constants in the order of their declarations.
-fn names_of(alloc: Global, decls: &[Decl]) -> NamesRead
-    requires { length decls.now ≤ 4000 }
-    ensures { NamesFound decls.now result }
+/// The names of declarations that are all of index constants, in their order.
+fn index_of(alloc: Global, decls: &[Decl]) -> IndexRead
+    requires { length decls.now < 2 ^ 28 }
+    ensures { IndexFound decls.now result }
 {
     let mut index = NameIndex::new(alloc);
-    let mut names = Names::new(alloc);
     for decl in decls {
         match index_name(decl) {
-            None => return NamesRead::Other,
-            Some(name) => {
-                match index.insert(alloc, name.as_slice()) {
-                    Err(_) => return NamesRead::Memory,
-                    Ok(false) => return NamesRead::Other,
-                    Ok(true) => {}
-                }
-                match name.copy(alloc) {
-                    Err(_) => return NamesRead::Memory,
-                    Ok(own) => match names.add_constant(own, Sort::Idx) {
-                        Err(_) => return NamesRead::Memory,
-                        Ok(()) => {}
-                    },
-                }
-            }
+            None => return IndexRead::Other,
+            Some(name) => match index.insert(alloc, name.as_slice()) {
+                Err(_) => return IndexRead::Memory,
+                Ok(false) => return IndexRead::Other,
+                Ok(true) => {}
+            },
         }
     }
-    NamesRead::Read { index, names }
+    IndexRead::Read(index)
+}
+
+/// The name that a declaration declares.
+fn decl_name(decl: &Decl) -> &Text
+    ensures { result.now ≡ decl_name decl.now }
+{
+    match decl {
+        Decl::Const { name, .. } => name,
+        Decl::Fun { name, .. } => name,
+    }
+}
+
+/// The declared names as index constants, in the order of their declarations.
+fn names_of(alloc: Global, decls: &[Decl]) -> Result<Names, AllocError>
+    requires { length decls.now ≤ 4000 }
+    ensures { IfOk result (AreNamesOf decls.now) }
+{
+    let mut names = Names::new(alloc);
+    for decl in decls {
+        names.add_constant(decl_name(decl).copy(alloc)?, Sort::Idx)?;
+    }
+    Ok(names)
 }
 
 /// The ground problem of a problem over index constants without variables: its constants, no definitions, and a line
@@ -152,23 +169,35 @@ fn names_of(alloc: Global, decls: &[Decl]) -> NamesRead
 /// number or the negation of one, a constant, the sum of an index term and a whole number in either order, or an
 /// index term without a whole number.
 ///
-/// Every bound is at most 10^25 in magnitude. `Other` comes only where the problem isn't such a problem, and `Wide`
-/// only where the numbers of some atom, added together by magnitude, come to 10^25 or more.
+/// Every bound is at most 10^25 in magnitude. `Other` comes only where the problem isn't such a problem, `ManyNames` only
+/// where it is one with more than 4,000 constants, and `Wide` only where the numbers of some atom, added together by
+/// magnitude, come to 10^25 or more.
 pub fn ground(alloc: Global, p: &Problem) -> GroundRead
-    requires constants { length p.now.decls ≤ 4000 }
+    requires constants { length p.now.decls < 2 ^ 28 }
     requires clauses { length p.now.clauses ≤ 2000 }
     ensures { GroundFound p.now result }
 {
-    match names_of(alloc, p.decls.as_slice()) {
-        NamesRead::Other => GroundRead::Other,
-        NamesRead::Memory => GroundRead::Memory,
-        NamesRead::Read { index, names } => {
-            match lines_of(alloc, &index, p.clauses.as_slice()) {
-                LinesRead::Other => GroundRead::Other,
-                LinesRead::Wide => GroundRead::Wide,
-                LinesRead::Memory => GroundRead::Memory,
-                LinesRead::Read(lines) => GroundRead::Read(Ground { names, lines }),
-            }
-        }
+    match index_of(alloc, p.decls.as_slice()) {
+        IndexRead::Other => GroundRead::Other,
+        IndexRead::Memory => GroundRead::Memory,
+        IndexRead::Read(index) => match lines_of(alloc, &index, p.clauses.as_slice()) {
+            LinesRead::Other => GroundRead::Other,
+            LinesRead::Wide => GroundRead::Wide,
+            LinesRead::Memory => GroundRead::Memory,
+            LinesRead::Read(lines) => with_names(alloc, p.decls.as_slice(), lines),
+        },
+    }
+}
+
+/// The ground problem with these lines over the declared names, of which there may be too many.
+fn with_names(alloc: Global, decls: &[Decl], lines: List<Line>) -> GroundRead
+    ensures { NamedAs decls.now lines result }
+{
+    if decls.len() > MOST_NAMES {
+        return GroundRead::ManyNames;
+    }
+    match names_of(alloc, decls) {
+        Ok(names) => GroundRead::Read(Ground { names, lines }),
+        Err(_) => GroundRead::Memory,
     }
 }

@@ -146,7 +146,7 @@ fn is_wanted(g: &Ground, want: &[IdxLit]) -> bool {
 }
 
 fn answered(alloc: Global, p: &Problem, want: &[IdxLit]) -> Answer {
-    if p.decls.len() > 4000 || p.clauses.len() > 2000 {
+    if p.decls.len() >= 1 << 28 || p.clauses.len() > 2000 {
         return Answer::Unasked;
     }
     match ground(alloc, p) {
@@ -158,6 +158,7 @@ fn answered(alloc: Global, p: &Problem, want: &[IdxLit]) -> Answer {
             }
         }
         GroundRead::Other => Answer::Other,
+        GroundRead::ManyNames => Answer::Differs,
         GroundRead::Wide => Answer::Wide,
         GroundRead::Memory => Answer::NoMemory,
     }

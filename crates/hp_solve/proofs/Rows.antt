@@ -1,120 +1,88 @@
--- The ground lines of a source are bounds on its constants, as the search and the texts ask.
-use Rattle.std.proofs.Common.{◌≡◌, ℕ, zero, suc, ◌<◌, ◌≤◌, ◌+◌, Bool, true, false, cond, ℤ, pos, List, [], ◌∷◌, ◌++◌, Option, Some, None, map, length, refl, sym, ap, subst, ◌∙◌, arith}
+-- The ground lines of an index problem are bounds on its constants, as the search and the texts ask.
+use Rattle.std.proofs.Common.{◌≡◌, ℕ, zero, suc, ◌<◌, ◌+◌, List, [], ◌∷◌, Option, Some, None, length, refl, sym, ap, subst, arith}
 use Rattle.std.specs.Prelude.{slice_get}
-use Rattle.std.proofs.lemmas.Int.{ints}
 use Rattle.std.specs.List.{All}
-use Rattle.std.proofs.lemmas.List.Elements.{All-nil, All-cons}
+use Rattle.std.proofs.lemmas.List.Elements.{All-nil, All-cons, All-head, All-tail}
+use Rattle.hp_ast.specs.declared.problem.Clause.{Clause}
+use Rattle.hp_ast.specs.declared.problem.Problem.{Problem}
 use Rattle.hp_ast.specs.declared.problem.Sort.{Sort}
 use Rattle.hp_ast.specs.declared.problem.Sort.TheVariants.{Idx as IdxSort}
 use Rattle.hp_base.specs.declared.literal.Name.{Name}
-use Rattle.hp_base.specs.declared.literal.Rel.{Rel}
-use Rattle.hp_base.specs.declared.literal.Rel.TheVariants.{Le, Lt, Eq}
-use Rattle.hp_base.specs.declared.literal.IdxLit.{IdxLit}
 use Rattle.hp_base.specs.declared.literal.Lit.{Lit}
-use Rattle.hp_base.specs.declared.literal.Lit.TheVariants.{Idx}
-use Rattle.hp_base.specs.declared.line.Line.{Line}
-use Rattle.hp_base.specs.declared.line.Origin.{Origin}
+use Rattle.hp_base.specs.declared.literal.Lit.TheVariants.{Num, Idx, Ptr}
 use Rattle.hp_base.specs.declared.line.Def.{Def}
-use Rattle.hp_base.specs.declared.names.Constant.{Constant}
-use Rattle.hp_base.specs.declared.names.Signature.{Signature}
+use Rattle.hp_base.specs.declared.line.Line.{Line}
 use Rattle.hp_base.specs.declared.names.Ground.{Ground}
-use Rattle.hp_base.specs.Names.{NameList, constant_sort, sort_of_definition, sorts}
-use Rattle.hp_diff.specs.Rows.{IsSmallBound}
-use Rattle.hp_search.specs.Rows.{AreRows, IsIdxSide, IsRow, IsRowOver}
-use Rattle.hp_cert.specs.Named.{DefIsNamed, GroundIsNamed, IsName, IsNameIfAny, LineIsNamed, LitIsNamed, OriginIsNamed}
-use Rattle.hp_lines.specs.declared.syntax.Comparison.{Comparison}
-use Rattle.hp_lines.specs.declared.syntax.Source.{Source}
-use Rattle.hp_lines.specs.declared.ground.Form.{Form}
-use Rattle.hp_lines.specs.Lines.{AreLines, AreLits, FormFits, IsGroundOf, IsLiteralOf, IsShort, NameFits, bound_of, compared, index_constant, is_base}
+use Rattle.hp_base.specs.Names.{NameList, sorts}
+use Rattle.hp_search.specs.Rows as search
+use Rattle.hp_cert.specs.Named.{DefIsNamed, GroundIsNamed, IsNameIfAny, LineIsNamed, LitIsNamed}
+use Rattle.hp_norm.specs.Ground.{HasRows, IsGroundOf, IsIdxSide, IsRow, declared, line_of, lines_from}
 
--- ---- the sorts of the names
-abbrev pub const_sorts : List (List ℕ) → List Sort
-const_sorts names = map constant_sort (map index_constant names) ++ []
+-- ---- what the search asks of literals
+searched_side : (ss : List Sort) (name : Option Name) → IsIdxSide ss name → search.IsIdxSide ss name
+searched_side ss None h = tt
+searched_side ss (Some name) h = h
 
-const_sort : (names : List (List ℕ)) (i : ℕ) → i < length names → slice_get (const_sorts names) i ≡ Some IdxSort
-const_sort [] i h = absurd (omega arith)
-const_sort (n ∷ ns) zero h = refl
-const_sort (n ∷ ns) (suc i) h = const_sort ns i (omega arith)
+searched_lit : (ss : List Sort) (l : Lit) → IsRow ss l → search.IsRow ss l
+searched_lit ss (Num l) h = absurd h
+searched_lit ss (Ptr l) h = absurd h
+searched_lit ss (Idx row) h = record {
+  bound = record { low = h.bound.low; high = h.bound.high };
+  left = searched_side ss row.left h.left;
+  right = searched_side ss row.right h.right;
+}
 
-pub length-const_sorts : (names : List (List ℕ)) → length (const_sorts names) ≡ length names
-length-const_sorts [] = refl
-length-const_sorts (n ∷ ns) = ap suc (length-const_sorts ns)
+searched_lits : (ss : List Sort) (ls : List Lit) → All (IsRow ss) ls → search.AreRows ss ls
+searched_lits ss [] h = All-nil (search.IsRow ss)
+searched_lits ss (l ∷ ls) h = All-cons (search.IsRow ss) l ls (searched_lit ss l (All-head (IsRow ss) l ls h)) (searched_lits ss ls (All-tail (IsRow ss) l ls h))
 
-pub sorts_are : (names : NameList) (consts : List (List ℕ)) → names.constants ≡ map index_constant consts → names.definitions ≡ [] → sorts names ≡ const_sorts consts
-sorts_are names consts e d = λ i. map constant_sort (e i) ++ map (sort_of_definition names.signatures) (d i)
+searched_lines : (ss : List Sort) (lines : List Line) → All (HasRows ss) lines → All (λ line. search.AreRows ss line.lits) lines
+searched_lines ss [] h = All-nil (λ line. search.AreRows ss line.lits)
+searched_lines ss (l ∷ ls) h =
+    All-cons (λ line. search.AreRows ss line.lits) l ls (searched_lits ss l.lits (All-head (HasRows ss) l ls h)) (searched_lines ss ls (All-tail (HasRows ss) l ls h))
 
--- ---- literals
-small_bound : (rel : Rel) (n : ℤ) → IsShort n → IsSmallBound (bound_of rel n)
-small_bound Le n h = record { low = omega (arith, ints, h.low); high = omega (arith, ints, h.high) }
-small_bound Lt n h = record { low = omega (arith, ints, h.low); high = omega (arith, ints, h.high) }
-small_bound Eq n h = record { low = omega (arith, ints, h.low); high = omega (arith, ints, h.high) }
+pub ground_rows : (p : Problem) (g : Ground) → IsGroundOf p g → All (λ line. search.AreRows (sorts g.names) line.lits) g.lines
+ground_rows p g is = searched_lines (sorts g.names) g.lines is.rows
 
-side : (names : List (List ℕ)) (b : Bool) (name : Option Name) → NameFits (length names) name → IsIdxSide (const_sorts names) (cond b None name)
-side names true name h = tt
-side names false None h = tt
-side names false (Some name) h = const_sort names name.0 h
+-- ---- one line for each clause
+count_lines : (names : List (List ℕ)) (n : ℕ) (cs : List Clause) → length (lines_from names n cs) ≡ length cs
+count_lines names n [] = refl
+count_lines names n (c ∷ cs) = ap suc (count_lines names (n + 1) cs)
 
-row_over : (names : List (List ℕ)) (c : Comparison) (row : IdxLit) → IsLiteralOf names c row → IsRowOver (const_sorts names) row
-row_over names c row is = subst (IsRowOver (const_sorts names)) (sym is.is) (record {
-  bound = small_bound c.rel is.form.offset is.fits.offset;
-  left = side names (is_base is.name is.form.base) (Some is.name) is.within;
-  right = side names (is_base is.name is.form.base) is.form.base is.fits.base;
-})
-
-rows_over : (names : List (List ℕ)) (q : List Comparison) (lits : List Lit) → AreLits names q lits → AreRows (const_sorts names) lits
-rows_over names [] [] h = All-nil (IsRow (const_sorts names))
-rows_over names [] (l ∷ ls) h = absurd h
-rows_over names (c ∷ cs) [] h = absurd h
-rows_over names (c ∷ cs) (l ∷ ls) h =
-    All-cons (IsRow (const_sorts names)) l ls (subst (IsRow (const_sorts names)) (sym h.0.1) (row_over names c h.0.0 h.0.2)) (rows_over names cs ls h.1)
-
-all_rows : (names : List (List ℕ)) (n : ℕ) (qs : List (List Comparison)) (lines : List Line) → AreLines names n qs lines → All (λ line. AreRows (const_sorts names) line.lits) lines
-all_rows names n [] [] h = All-nil (λ line. AreRows (const_sorts names) line.lits)
-all_rows names n [] (l ∷ ls) h = absurd h
-all_rows names n (q ∷ qs) [] h = absurd h
-all_rows names n (q ∷ qs) (l ∷ ls) h = All-cons (λ line. AreRows (const_sorts names) line.lits) l ls (rows_over names q l.lits h.1) (all_rows names (n + 1) qs ls h.2)
-
-pub ground_rows : (source : Source) (g : Ground) → IsGroundOf source g → All (λ line. AreRows (sorts g.names) line.lits) g.lines
-ground_rows source g is =
-    subst (λ (ss : List Sort). All (λ line. AreRows ss line.lits) g.lines) (sym (sorts_are g.names source.consts is.constants is.definitions)) (all_rows source.consts 1 source.queries g.lines is.lines)
-
-count_lines : (names : List (List ℕ)) (n : ℕ) (qs : List (List Comparison)) (lines : List Line) → AreLines names n qs lines → length lines ≡ length qs
-count_lines names n [] [] h = refl
-count_lines names n [] (l ∷ ls) h = absurd h
-count_lines names n (q ∷ qs) [] h = absurd h
-count_lines names n (q ∷ qs) (l ∷ ls) h = ap suc (count_lines names (n + 1) qs ls h.2)
-
-pub ground_count : (source : Source) (g : Ground) → IsGroundOf source g → length g.lines ≡ length source.queries
-ground_count source g is = count_lines source.consts 1 source.queries g.lines is.lines
+pub ground_count : (p : Problem) (g : Ground) → IsGroundOf p g → length g.lines ≡ length p.clauses
+ground_count p g is = subst (λ (ls : List Line). length ls ≡ length p.clauses) (sym is.lines) (count_lines (declared p) 1 p.clauses)
 
 -- ---- names of literals are names of the problem
-named_side : (names : NameList) (consts : List (List ℕ)) → sorts names ≡ const_sorts consts → (b : Bool) (name : Option Name) → NameFits (length consts) name → IsNameIfAny names (cond b None name)
-named_side names consts e true name h = tt
-named_side names consts e false None h = tt
-named_side names consts e false (Some name) h = omega (arith, ap length e, length-const_sorts consts)
+within : (ss : List Sort) (i : ℕ) (s : Sort) → slice_get ss i ≡ Some s → i < length ss
+within [] i s h = absurd (cc)
+within (x ∷ xs) zero s h = omega arith
+within (x ∷ xs) (suc i) s h = omega (arith, within xs i s h)
 
-named_lit : (names : NameList) (consts : List (List ℕ)) → sorts names ≡ const_sorts consts → (c : Comparison) (row : IdxLit) → IsLiteralOf consts c row → LitIsNamed names (Idx row)
-named_lit names consts e c row is = subst (λ r. LitIsNamed names (Idx r)) (sym is.is) (
-  named_side names consts e (is_base is.name is.form.base) (Some is.name) is.within,
-  named_side names consts e (is_base is.name is.form.base) is.form.base is.fits.base,
-)
+named_side : (names : NameList) (name : Option Name) → IsIdxSide (sorts names) name → IsNameIfAny names name
+named_side names None h = tt
+named_side names (Some name) h = within (sorts names) name.0 IdxSort h
 
-named_lits : (names : NameList) (consts : List (List ℕ)) → sorts names ≡ const_sorts consts → (q : List Comparison) (lits : List Lit) → AreLits consts q lits → All (LitIsNamed names) lits
-named_lits names consts e [] [] h = All-nil (LitIsNamed names)
-named_lits names consts e [] (l ∷ ls) h = absurd h
-named_lits names consts e (c ∷ cs) [] h = absurd h
-named_lits names consts e (c ∷ cs) (l ∷ ls) h =
-    All-cons (LitIsNamed names) l ls (subst (LitIsNamed names) (sym h.0.1) (named_lit names consts e c h.0.0 h.0.2)) (named_lits names consts e cs ls h.1)
+named_lit : (names : NameList) (l : Lit) → IsRow (sorts names) l → LitIsNamed names l
+named_lit names (Num l) h = absurd h
+named_lit names (Ptr l) h = absurd h
+named_lit names (Idx row) h = (named_side names row.left h.left, named_side names row.right h.right)
 
-named_lines : (names : NameList) (consts : List (List ℕ)) → sorts names ≡ const_sorts consts → (n : ℕ) (qs : List (List Comparison)) (lines : List Line) → AreLines consts n qs lines → All (LineIsNamed names) lines
-named_lines names consts e n [] [] h = All-nil (LineIsNamed names)
-named_lines names consts e n [] (l ∷ ls) h = absurd h
-named_lines names consts e n (q ∷ qs) [] h = absurd h
-named_lines names consts e n (q ∷ qs) (l ∷ ls) h =
-    All-cons (LineIsNamed names) l ls (subst (OriginIsNamed names) (sym h.0) tt, named_lits names consts e q l.lits h.1) (named_lines names consts e (n + 1) qs ls h.2)
+named_lits : (names : NameList) (ls : List Lit) → All (IsRow (sorts names)) ls → All (LitIsNamed names) ls
+named_lits names [] h = All-nil (LitIsNamed names)
+named_lits names (l ∷ ls) h =
+    All-cons (LitIsNamed names) l ls (named_lit names l (All-head (IsRow (sorts names)) l ls h)) (named_lits names ls (All-tail (IsRow (sorts names)) l ls h))
 
-pub ground_named : (source : Source) (g : Ground) → IsGroundOf source g → GroundIsNamed g
-ground_named source g is = record {
+-- the lines of clauses name nothing but in their literals
+named_lines : (names : NameList) (consts : List (List ℕ)) (n : ℕ) (cs : List Clause) → All (HasRows (sorts names)) (lines_from consts n cs) → All (LineIsNamed names) (lines_from consts n cs)
+named_lines names consts n [] h = All-nil (LineIsNamed names)
+named_lines names consts n (c ∷ cs) h =
+    All-cons (LineIsNamed names) (line_of consts n c) (lines_from consts (n + 1) cs)
+    (tt, named_lits names (line_of consts n c).lits (All-head (HasRows (sorts names)) (line_of consts n c) (lines_from consts (n + 1) cs) h))
+    (named_lines names consts (n + 1) cs (All-tail (HasRows (sorts names)) (line_of consts n c) (lines_from consts (n + 1) cs) h))
+
+pub ground_named : (p : Problem) (g : Ground) → IsGroundOf p g → GroundIsNamed g
+ground_named p g is = record {
   definitions = subst (λ (ds : List Def). All (DefIsNamed g.names) ds) (sym is.definitions) (All-nil (DefIsNamed g.names));
-  lines = named_lines g.names source.consts (sorts_are g.names source.consts is.constants is.definitions) 1 source.queries g.lines is.lines;
+  lines = subst (λ (ls : List Line). All (LineIsNamed g.names) ls) (sym is.lines)
+      (named_lines g.names (declared p) 1 p.clauses (subst (λ (ls : List Line). All (HasRows (sorts g.names)) ls) is.lines is.rows));
 }

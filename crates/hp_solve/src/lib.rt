@@ -1,4 +1,4 @@
-//! The verdict on a text: a structure that satisfies its problem, a refutation, or a search that came to its limit.
+//! The verdict on a problem: a structure that satisfies it, a refutation, or a search that came to its limit.
 #![tactic(auto)]
 
 mod solving;

@@ -1,8 +1,6 @@
-use Rattle.std.proofs.Common.{◌≡◌, [], map, take}
-use Rattle.std.specs.List.{All}
-use Rattle.hp_norm.specs.Ground.{IsIndexDecl, decl_name}
-use Rattle.hp_norm.proofs.Declared.{AreNamesSoFar}
+use Rattle.std.proofs.Common.{take}
+use Rattle.hp_norm.specs.Answers.{AreNamesOf}
 use Rattle.hp_norm.proofs.grounding.names_of.Given as goal
 
 abbrev pub invariant-loop-decl : goal.invariant-loop-decl
-invariant-loop-decl l = AreNamesSoFar (map decl_name l.decls) l.decl-index l.index l.names.constants × (l.names.definitions ≡ []) × All IsIndexDecl (take l.decl-index l.decls)
+invariant-loop-decl l = AreNamesOf (take l.decl-index l.decls) l.names

@@ -1,6 +1,7 @@
-use Rattle.std.proofs.Common.{◌≡◌, take}
-use Rattle.hp_lines.specs.Laws.{const_values}
+use Rattle.std.proofs.Common.{◌≡◌, take, map}
+use Rattle.hp_base.specs.Names.{constant_name}
+use Rattle.hp_norm.specs.Laws.{const_values}
 use Rattle.hp_solve.proofs.solving.structure.Given as goal
 
 abbrev pub invariant-loop-at : goal.invariant-loop-at
-invariant-loop-at l = l.entries ≡ const_values (take l.at l.consts) l.values.values
+invariant-loop-at l = l.consts ≡ const_values (map constant_name (take l.at l.constants)) l.values.values

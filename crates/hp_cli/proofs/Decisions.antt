@@ -1,0 +1,48 @@
+-- What each step of the decision says of the answer.
+use Rattle.std.proofs.Common.{◌≡◌, ◌≢◌, ◌<◌, ◌≤◌, ◌+◌, ◌^◌, ℕ, List, Bool, true, false, cond, length, nat_lt, Option, Some, None, refl, sym, inl, inr, arith}
+use Rattle.std.proofs.lemmas.Bool.{ltb-false}
+use Rattle.hp_ast.specs.declared.limit.Limit.{Limit as LimitOf}
+use Rattle.hp_ast.specs.declared.problem.Problem.{Problem}
+use Rattle.hp_bounds.proofs.Bounds as bounds
+use Rattle.hp_norm.specs.Ground.{IsLight}
+use Rattle.hp_sorts.specs.declared.fault.SortErr.{SortErr}
+use Rattle.hp_sorts.specs.declared.fault.SortErr.TheVariants.{Twice, Level, Unknown, Arity, Mismatch, Memory}
+use Rattle.hp_sorts.specs.Faults.{IsCause}
+use Rattle.hp_sorts.specs.Limits.{passed}
+use Rattle.hp_cli.specs.declared.answer.Status.TheVariants.{Spelling, Limit}
+use Rattle.hp_cli.specs.declared.words.Task.{Task}
+use Rattle.hp_cli.specs.declared.words.Task.TheVariants.{Solve, Print}
+use Rattle.hp_cli.specs.Answer.{Does}
+use Rattle.hp_cli.specs.Verdicts.{IsCounted, IsRead, Misspelled, TooLong}
+
+-- ---- every task
+pub misspelled : (task : Task) (bytes text : List ℕ) → Misspelled bytes text → Does task bytes text Spelling
+misspelled (Solve most) bytes text h = h
+misspelled Print bytes text h = h
+
+pub too_long : (task : Task) (bytes text : List ℕ) → TooLong bytes text → Does task bytes text Limit
+too_long (Solve most) bytes text h = inl h
+too_long Print bytes text h = h
+
+-- ---- what a problem that was read keeps to
+pub few_items : (bytes : List ℕ) (p : Problem) → IsRead bytes p → (length p.decls + length p.clauses) < 2 ^ 28
+few_items bytes p r = omega (arith, r.size, bounds.few_items bytes p r.spelled)
+
+pub is_light : (bytes : List ℕ) (p : Problem) → IsRead bytes p → IsLight p
+is_light bytes p r = bounds.light_numbers bytes p r.spelled r.size
+
+not_first : {A : Type 0} (b : Bool) (x : A) (rest : Option A) → cond b (Some x) rest ≡ None → b ≡ false
+not_first true x rest e = absurd (cc)
+not_first false x rest e = refl
+
+pub few_clauses : (p : Problem) → passed p ≡ None → length p.clauses ≤ 2000
+few_clauses p h = ltb-false 2000 (length p.clauses) (not_first (nat_lt 2000 (length p.clauses)) _ _ h)
+
+-- an error that isn't want of memory is the fault
+pub is_fault : (fault : Option SortErr) (e : SortErr) → IsCause fault e → e ≢ Memory → fault ≡ Some e
+is_fault fault (Twice item) h n = h
+is_fault fault (Level item) h n = h
+is_fault fault (Unknown item) h n = h
+is_fault fault (Arity item) h n = h
+is_fault fault (Mismatch item) h n = h
+is_fault fault Memory h n = absurd (n refl)

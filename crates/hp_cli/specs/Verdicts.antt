@@ -1,0 +1,130 @@
+-- What the program says of the bytes of an input.
+use Rattle.std.specs.Prelude.{◌≡◌, ◌≢◌, ◌⊎◌, ℕ, ◌<◌, ◌≤◌, List, [], ◌++◌, codes, length, Some, None}
+use Rattle.std.specs.Fmt.{decimal}
+use Rattle.hp_ast.specs.declared.limit.Limit.{Limit}
+use Rattle.hp_ast.specs.declared.limit.Which.TheVariants.{Bytes, Names}
+use Rattle.hp_ast.specs.declared.problem.Problem.{Problem}
+use Rattle.hp_ast.specs.Printing.{problem_text}
+use Rattle.hp_base.specs.declared.names.Ground.{Ground}
+use Rattle.hp_base.specs.Names.{sorts}
+use Rattle.hp_read.specs.declared.fault.ReadErr.{ReadErr}
+use Rattle.hp_read.specs.declared.fault.ReadErr.TheVariants.{Memory as memory}
+use Rattle.hp_read.specs.Spells.{Spells, IsFault}
+use Rattle.hp_sorts.specs.declared.fault.SortErr.{SortErr}
+use Rattle.hp_sorts.specs.Faults.{sort_fault}
+use Rattle.hp_sorts.specs.Limits.{limit, passed}
+use Rattle.hp_model.specs.declared.structure.Structure.{Structure}
+use Rattle.hp_model.specs.Satisfies.{Satisfies}
+use Rattle.hp_model.specs.Written.{structure_text}
+use Rattle.hp_leaf.specs.Tree.{IsSpent}
+use Rattle.hp_cert.specs.declared.refutation.Refutation.{Refutation}
+use Rattle.hp_cert.specs.Entries.{AreSplitLines, all_defs}
+use Rattle.hp_cert.specs.Refutation.{refutation_text}
+use Rattle.hp_cert.specs.Refutes.{Refutes}
+use Rattle.hp_norm.specs.Ground.{IsGroundOf, IsIndexProblem}
+use Rattle.hp_solve.specs.Solved.{IsInScope}
+use Rattle.hp_cli.specs.Refusals.{line, limit_text, not_built_text, sort_text, spelling_text}
+
+-- ---- how far an input comes
+-- at most 1,048,576 bytes, and they spell the problem
+pub record IsRead (bytes : List ℕ) (p : Problem) : Type 0 where
+  pub size : length bytes ≤ 1048576
+  pub spelled : Spells bytes p
+
+-- no item breaks a rule on names and sorts
+pub record IsSorted (bytes : List ℕ) (p : Problem) : Type 0 where
+  pub read : IsRead bytes p
+  pub sorted : sort_fault p ≡ None
+
+-- at most 2,000 clauses, of at most 6 variables each, and functions of at most 4 arguments
+pub record IsCounted (bytes : List ℕ) (p : Problem) : Type 0 where
+  pub sorted : IsSorted bytes p
+  pub counted : passed p ≡ None
+
+-- a problem over at most 4,000 index constants: the texts that get a verdict
+pub record InScope (bytes : List ℕ) (p : Problem) : Type 0 where
+  pub counted : IsCounted bytes p
+  pub scope : IsInScope p
+
+-- ---- refusals
+pub record Misspelled (bytes text : List ℕ) : Type 0 where
+  pub size : length bytes ≤ 1048576
+  pub fault : ReadErr
+  pub cause : IsFault bytes fault
+  pub known : fault ≢ memory
+  pub written : text ≡ spelling_text fault
+
+pub record Missorted (bytes text : List ℕ) : Type 0 where
+  pub problem : Problem
+  pub read : IsRead bytes problem
+  pub fault : SortErr
+  pub cause : sort_fault problem ≡ Some fault
+  pub written : text ≡ sort_text fault
+
+-- more bytes than a problem may have
+pub record TooLong (bytes text : List ℕ) : Type 0 where
+  pub size : 1048576 < length bytes
+  pub written : text ≡ limit_text (limit Bytes 1048576)
+
+-- more clauses, variables or arguments
+pub record TooMany (bytes text : List ℕ) : Type 0 where
+  pub problem : Problem
+  pub sorted : IsSorted bytes problem
+  pub limit_of : Limit
+  pub cause : passed problem ≡ Some limit_of
+  pub written : text ≡ limit_text limit_of
+
+-- more index constants
+pub record TooManyNames (bytes text : List ℕ) : Type 0 where
+  pub problem : Problem
+  pub counted : IsCounted bytes problem
+  pub index : IsIndexProblem problem
+  pub size : 4000 < length problem.decls
+  pub written : text ≡ limit_text (limit Names 4000)
+
+-- a problem of a form that isn't decided so far: it declares something else than index constants, or a clause has
+-- variables, or an atom is of another sort
+pub record IsNotBuilt (bytes text : List ℕ) : Type 0 where
+  pub problem : Problem
+  pub counted : IsCounted bytes problem
+  pub other : IsIndexProblem problem → ⊥
+  pub written : text ≡ not_built_text
+
+-- ---- answers
+pub record Printed (bytes text : List ℕ) : Type 0 where
+  pub problem : Problem
+  pub read : IsRead bytes problem
+  pub written : text ≡ problem_text problem
+
+-- the text is a structure that satisfies the problem
+pub record Satisfiable (bytes text : List ℕ) : Type 0 where
+  pub problem : Problem
+  pub scope : InScope bytes problem
+  pub structure : Structure
+  pub satisfied : Satisfies structure problem
+  pub written : text ≡ line (codes "satisfiable") ++ structure_text structure
+
+-- No structure satisfies the problem, and the text is a refutation: each definition and line in it is that of the problem
+-- with its number, each split is of a listed line, and the tree is whole with valid leaves.
+pub record Unsatisfiable (bytes text : List ℕ) : Type 0 where
+  pub problem : Problem
+  pub scope : InScope bytes problem
+  pub lines : Ground
+  pub ground : IsGroundOf problem lines
+  pub refutation : Refutation
+  pub refuted : Refutes lines refutation
+  pub none : (s : Structure) → Satisfies s problem → ⊥
+  pub written : text ≡ line (codes "unsatisfiable") ++ refutation_text refutation
+
+-- The text is an honest tree of exactly so many splits and leaves, with an open place, below the definitions and the
+-- lines that it splits.
+pub record OutOfNodes (bytes text : List ℕ) (most : ℕ) : Type 0 where
+  pub problem : Problem
+  pub scope : InScope bytes problem
+  pub lines : Ground
+  pub ground : IsGroundOf problem lines
+  pub listing : Refutation
+  pub honest : IsSpent (sorts lines.names) lines.lines listing.tree most
+  pub defs : listing.defs ≡ all_defs lines.names
+  pub listed : AreSplitLines lines listing.tree listing.lines
+  pub written : text ≡ line (codes "spent " ++ decimal most) ++ refutation_text listing
