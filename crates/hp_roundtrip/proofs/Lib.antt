@@ -1,0 +1,4 @@
+pub mod Cutting
+pub mod Pieces
+pub mod Lists
+pub mod TermsCut
