@@ -89,6 +89,18 @@ tail_tail {a} {b} {ts} {us} p q = record {
 pub no_tail : IsTail [] []
 no_tail = record { stops = λ rest h. h; cuts = λ rest h. refl }
 
+pub free_free : {a b : List ℕ} {ts us : List Token} → IsFree a ts → IsFree b us → IsFree (a ++ b) (ts ++ us)
+free_free {a} {b} {ts} {us} p q = record { cuts = λ rest. joined a b rest ts us (p.cuts (b ++ rest)) (q.cuts rest) }
+
+pub sign_then : {a b : List ℕ} {ts us : List Token} → IsSign a ts → IsFree b us → IsSign (a ++ b) (ts ++ us)
+sign_then {a} {b} {ts} {us} p q = record {
+  stops = λ rest. rw append_assoc (p.stops (b ++ rest));
+  cuts = λ rest. joined a b rest ts us (p.cuts (b ++ rest)) (q.cuts rest);
+}
+
+pub nothing : IsFree [] []
+nothing = record { cuts = λ rest. refl }
+
 -- ---- signs
 pub symbol_fixed : (k : Kind) (text : List ℕ) → is_fixed k ≡ true → symbol_by k text ≡ word k
 symbol_fixed kinds.Name text e = absurd (cc)
@@ -110,6 +122,9 @@ one text rest k e f h = (rest, record {
 -- a blank
 pub blank : IsSign (32 ∷ []) []
 blank = record { stops = λ rest. refl; cuts = λ rest. ap (λ n. drop n (32 ∷ rest)) (one-add (gap rest)) }
+
+pub line_feed : IsSign (10 ∷ []) []
+line_feed = record { stops = λ rest. refl; cuts = λ rest. ap (λ n. drop n (10 ∷ rest)) (one-add (gap rest)) }
 
 -- a sign that no other byte makes longer
 pub tight : (text : List ℕ) (k : Kind) → ((rest : List ℕ) → Stops (text ++ rest)) → ((rest : List ℕ) → bare (text ++ rest) ≡ text ++ rest)
