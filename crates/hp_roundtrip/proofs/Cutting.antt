@@ -1,11 +1,10 @@
 -- Bytes that are cut into tokens from the front, at whatever place they stand, and the tokens of a text that is cut to its end.
-use Rattle.std.proofs.Common.{◌≡◌, ◌≢◌, ℕ, ◌+◌, ◌-◌, List, [], ◌∷◌, ◌++◌, length, take, drop, Result, Ok, refl, sym, ap, ◌∙◌, arith}
+use Rattle.std.proofs.Common.{◌≡◌, ◌≢◌, ℕ, ◌+◌, ◌-◌, List, [], ◌∷◌, ◌++◌, length, take, drop, Ok, refl, sym, ap, ◌∙◌, arith}
 use Rattle.std.proofs.Math.Seq.{take-append_seam, drop-append_seam}
 use Rattle.std.proofs.lemmas.List.{drop-drop}
 use Rattle.hp_text.specs.declared.token.Kind.{Kind}
 use Rattle.hp_text.specs.declared.token.Kind.TheVariants as kinds
 use Rattle.hp_text.specs.declared.token.Token.{Token as Placed}
-use Rattle.hp_text.specs.declared.token.TokenErr.{TokenErr}
 use Rattle.hp_text.specs.Tokens.{gap, token, front, start_from, next_from}
 use Rattle.hp_text.specs.Placed.{text_of}
 use Rattle.hp_text.specs.Lexes.{Passes, Lexes}
@@ -13,11 +12,11 @@ use Rattle.hp_read.specs.declared.symbol.Symbol.{Symbol as Token}
 use Rattle.hp_read.specs.Symbols.{symbol_by, symbol_of, symbols}
 
 -- ---- cutting
--- the bytes without the blanks in front
+-- the bytes without the blanks and comments in front
 abbrev pub bare : List ℕ → List ℕ
 bare bytes = drop (gap bytes) bytes
 
--- the first token of these bytes, in front of which no blank stands, and the bytes behind it
+-- these bytes begin with this token, and those are behind it
 pub record Takes (bytes : List ℕ) (t : Token) (next : List ℕ) : Type 0 where
   pub kind : Kind
   pub text : List ℕ
@@ -31,7 +30,7 @@ abbrev pub Cuts : List ℕ → List Token → List ℕ → Type 0
 Cuts bytes [] rest = bare bytes ≡ bare rest
 Cuts bytes (t ∷ ts) rest = (next : List ℕ) × Takes (bare bytes) t next × Cuts next ts rest
 
--- blanks in front make no difference
+-- blanks and comments in front make no difference
 pub cuts_from : (a b : List ℕ) (ts : List Token) (rest : List ℕ) → bare a ≡ bare b → Cuts b ts rest → Cuts a ts rest
 cuts_from a b [] rest e c = e ∙ c
 cuts_from a b (t ∷ ts) rest e c = (c.0, rw e c.1, c.2)
@@ -42,7 +41,7 @@ cuts_join a b c [] us p q = cuts_from a b us c p q
 cuts_join a b c (t ∷ ts) us p q = (p.0, p.1, cuts_join p.0 b c ts us p.2 q)
 
 -- ---- places
--- the bytes from a place on, without the blanks in front, are those that the next token begins
+-- the next token begins behind the blanks and comments that stand at the place
 bare_from : (bytes : List ℕ) (at : ℕ) → drop (start_from bytes at) bytes ≡ bare (drop at bytes)
 bare_from bytes at = sym (drop-drop (gap (drop at bytes)) at bytes)
 

@@ -1,5 +1,5 @@
 -- The printed text of a problem is cut into its tokens.
-use Rattle.std.proofs.Common.{◌≡◌, ℕ, ◌^◌, ◌<◌, Bool, true, false, List, [], ◌∷◌, ◌++◌, Ok, refl, sym, ap, subst, ◌∙◌, arith, append-nil, append_assoc}
+use Rattle.std.proofs.Common.{◌≡◌, ℕ, ◌^◌, Bool, true, false, List, [], ◌∷◌, ◌++◌, Ok, refl, subst, append-nil, append_assoc}
 use Rattle.std.specs.Prelude.{codes}
 use Rattle.std.specs.List.{flat_map, join_by}
 use Rattle.std.specs.Fmt.{decimal}
@@ -10,8 +10,6 @@ use Rattle.hp_text.specs.Lexes.{Lexes}
 use Rattle.hp_ast.specs.declared.printing.Place.TheVariants.{Whole}
 use Rattle.hp_ast.specs.declared.problem.Sort.{Sort}
 use Rattle.hp_ast.specs.declared.problem.Sort.TheVariants.{Num, Idx, Ptr}
-use Rattle.hp_ast.specs.declared.problem.Cmp.{Cmp}
-use Rattle.hp_ast.specs.declared.problem.Cmp.TheVariants.{Le, Lt, Eq, Ne, Ge, Gt}
 use Rattle.hp_ast.specs.declared.problem.Atom.{Atom}
 use Rattle.hp_ast.specs.declared.problem.Var.{Var}
 use Rattle.hp_ast.specs.declared.problem.Clause.{Clause}
@@ -25,39 +23,11 @@ use Rattle.hp_read.specs.declared.symbol.Symbol.{Symbol as Token}
 use Rattle.hp_read.specs.declared.symbol.Symbol.TheVariants.{Word as word, Name as name, Numeral as numeral}
 use Rattle.hp_roundtrip.specs.Printed.{tokens_at, relation_kind, atom_tokens, guard_tokens, head_tokens, sort_kind, sort_tokens, var_tokens, word_tokens, clause_tokens, decl_tokens, problem_tokens}
 use Rattle.hp_roundtrip.proofs.Cutting.{Cuts, lexed}
-use Rattle.hp_roundtrip.proofs.Pieces.{IsFree, IsSign, IsPiece, piece_sign, free_then, free_piece, free_free, sign_free, sign_sign, sign_then, nothing, tight, spaced, blank, line_feed, reserved, named, counted}
+use Rattle.hp_roundtrip.proofs.Pieces.{IsFree, IsSign, IsPiece, piece_sign, free_then, free_piece, free_free, sign_sign, sign_then, nothing}
+use Rattle.hp_roundtrip.proofs.Signs.{blank, line_feed, open_round, close_round, open_square, close_square, comma, colon, semicolon, conjunction, disjunction, arrow, relation}
+use Rattle.hp_roundtrip.proofs.Words.{reserved, named, counted}
 use Rattle.hp_roundtrip.proofs.Lists.{tokens_front, tokens_back, joined_pieces}
-use Rattle.hp_roundtrip.proofs.TermsCut.{open_round, close_round, comma, term_cut}
-
--- ---- signs
-colon : IsSign (codes ":") (word kinds.Colon ∷ [])
-colon = tight (codes ":") kinds.Colon (λ rest. refl) (λ rest. refl) (λ start rest. refl) refl
-
-semicolon : IsSign (codes ";") (word kinds.Semicolon ∷ [])
-semicolon = tight (codes ";") kinds.Semicolon (λ rest. refl) (λ rest. refl) (λ start rest. refl) refl
-
-open_square : IsSign (codes "[") (word kinds.OpenSquare ∷ [])
-open_square = tight (codes "[") kinds.OpenSquare (λ rest. refl) (λ rest. refl) (λ start rest. refl) refl
-
-close_square : IsSign (codes "]") (word kinds.CloseSquare ∷ [])
-close_square = tight (codes "]") kinds.CloseSquare (λ rest. refl) (λ rest. refl) (λ start rest. refl) refl
-
-conjunction : IsSign (codes " & ") (word kinds.And ∷ [])
-conjunction = spaced (codes "&") kinds.And (λ rest. refl) (λ start rest. refl) refl
-
-disjunction : IsSign (codes " | ") (word kinds.Or ∷ [])
-disjunction = spaced (codes "|") kinds.Or (λ rest. refl) (λ start rest. refl) refl
-
-arrow : IsSign (codes " -> ") (word kinds.Arrow ∷ [])
-arrow = spaced (codes "->") kinds.Arrow (λ rest. refl) (λ start rest. refl) refl
-
-relation : (cmp : Cmp) → IsSign (codes " " ++ relation_text cmp ++ codes " ") (word (relation_kind cmp) ∷ [])
-relation Le = spaced (codes "<=") kinds.LessEq (λ rest. refl) (λ start rest. refl) refl
-relation Lt = spaced (codes "<") kinds.Less (λ rest. refl) (λ start rest. refl) refl
-relation Eq = spaced (codes "=") kinds.Equal (λ rest. refl) (λ start rest. refl) refl
-relation Ne = spaced (codes "!=") kinds.NotEqual (λ rest. refl) (λ start rest. refl) refl
-relation Ge = spaced (codes ">=") kinds.GreaterEq (λ rest. refl) (λ start rest. refl) refl
-relation Gt = spaced (codes ">") kinds.Greater (λ rest. refl) (λ start rest. refl) refl
+use Rattle.hp_roundtrip.proofs.TermsCut.{term_cut}
 
 -- ---- clauses
 between : (a b c d e : List ℕ) → a ++ (b ++ c ++ d) ++ e ≡ a ++ b ++ c ++ d ++ e
@@ -159,7 +129,7 @@ problem_free p a =
     free_free (free_free first (lines_free decl_text decl_tokens decl_free p.decls front.1.1.1))
     (lines_free clause_text clause_tokens clause_free p.clauses (tokens_back (word kinds.Profile ∷ numeral p.profile ∷ word kinds.Semicolon ∷ decls) clauses a))
 
--- the printed text of a problem has the problem's tokens, and no other
+-- the printed text of a problem has the problem's tokens
 pub problem_cut : (p : Problem) → AreTokens (problem_tokens p)
     → (ts : List Placed) × (last : Placed) × Lexes (problem_text p) ts (Ok last) × (symbols (problem_text p) ts ≡ problem_tokens p)
 problem_cut p a = lexed (problem_text p) (problem_tokens p) (subst (λ (z : List ℕ). Cuts z (problem_tokens p) []) (append-nil (problem_text p)) ((problem_free p a).cuts []))

@@ -1,5 +1,5 @@
 -- The printed text of a term is its tokens at each place, where no name byte stands behind it.
-use Rattle.std.proofs.Common.{◌≡◌, ℕ, suc, ◌^◌, ◌<◌, ℤ, pos, negsuc, Bool, true, false, List, [], ◌∷◌, ◌++◌, map, nat_lt, refl, sym, ap, subst, ◌∙◌, arith, append-nil, append_assoc, unsigned_abs}
+use Rattle.std.proofs.Common.{◌≡◌, ℕ, suc, ◌^◌, ◌<◌, ℤ, pos, negsuc, Bool, true, false, List, [], ◌∷◌, ◌++◌, map, refl, sym, subst, ◌∙◌, append-nil, append_assoc}
 use Rattle.std.specs.Prelude.{codes, if◌then◌else◌}
 use Rattle.std.specs.List.{join_by}
 use Rattle.std.specs.Fmt.{decimal, signed_decimal}
@@ -16,33 +16,14 @@ use Rattle.hp_read.specs.Token.{is_token, AreTokens}
 use Rattle.hp_read.specs.declared.symbol.Symbol.{Symbol as Token}
 use Rattle.hp_read.specs.declared.symbol.Symbol.TheVariants.{Word as word, Name as name, Numeral as numeral}
 use Rattle.hp_roundtrip.specs.Printed.{whole_tokens, frac_tokens, enclosed_tokens, tokens_step, tokens_at}
-use Rattle.hp_roundtrip.proofs.Pieces.{IsFree, IsSign, IsPiece, piece_sign, free_then, free_piece, sign_free, tight, spaced, blank, sign_sign, reserved, named, counted, opens, opens_more, name_opens, number_opens, minus}
+use Rattle.hp_roundtrip.proofs.Pieces.{IsSign, IsPiece, piece_sign, free_then, free_piece, sign_free}
+use Rattle.hp_roundtrip.proofs.Signs.{open_round, close_round, comma, slash, plus_sign, minus_sign, times_sign}
+use Rattle.hp_roundtrip.proofs.Words.{reserved, named, counted}
+use Rattle.hp_roundtrip.proofs.Minus.{opens, opens_more, name_opens, number_opens, minus}
 use Rattle.hp_roundtrip.proofs.Lists.{tokens_front, tokens_back, join_by-map, joined_pieces}
 
--- ---- the signs of terms
-pub open_round : IsSign (codes "(") (word kinds.OpenRound ∷ [])
-open_round = tight (codes "(") kinds.OpenRound (λ rest. refl) (λ rest. refl) (λ start rest. refl) refl
-
-pub close_round : IsSign (codes ")") (word kinds.CloseRound ∷ [])
-close_round = tight (codes ")") kinds.CloseRound (λ rest. refl) (λ rest. refl) (λ start rest. refl) refl
-
-pub comma : IsSign (codes ", ") (word kinds.Comma ∷ [])
-comma = sign_sign (tight (codes ",") kinds.Comma (λ rest. refl) (λ rest. refl) (λ start rest. refl) refl) blank
-
-slash : IsSign (codes "/") (word kinds.Slash ∷ [])
-slash = tight (codes "/") kinds.Slash (λ rest. refl) (λ rest. refl) (λ start rest. refl) refl
-
-plus : IsSign (codes " + ") (word kinds.Plus ∷ [])
-plus = spaced (codes "+") kinds.Plus (λ rest. refl) (λ start rest. refl) refl
-
-less : IsSign (codes " - ") (word kinds.Minus ∷ [])
-less = spaced (codes "-") kinds.Minus (λ rest. refl) (λ start rest. refl) refl
-
-star : IsSign (codes " * ") (word kinds.Star ∷ [])
-star = spaced (codes "*") kinds.Star (λ rest. refl) (λ start rest. refl) refl
-
 -- ---- texts of terms
--- a text that is these tokens, and makes no arrow of a minus in front of it
+-- a text that is these tokens, and may stand behind a minus
 record IsPart (text : List ℕ) (ts : List Token) : Type 0 where
   pub opens : opens text ≡ true
   pub piece : IsPiece text ts
@@ -89,19 +70,29 @@ PartsAt f g = (place : Place) → AreTokens (g place) → IsPart (f place) (g pl
 abbrev IsTermPart : Term → Type 0
 IsTermPart t = PartsAt (text_at t) (tokens_at t)
 
+-- a term that is known to be such a part, as an argument
 abbrev Arg : Type 0
 Arg = (t : Term) × IsTermPart t
 
-args_piece : (args : List Arg) → AreTokens (join_by (λ arg. arg Whole) (word kinds.Comma ∷ []) (map tokens_at (map (λ (e : Arg). e.0) args)))
-    → IsPiece (join_by (λ arg. arg Whole) (codes ", ") (map text_at (map (λ (e : Arg). e.0) args))) (join_by (λ arg. arg Whole) (word kinds.Comma ∷ []) (map tokens_at (map (λ (e : Arg). e.0) args)))
+abbrev terms : List Arg → List Term
+terms args = map (λ e. e.0) args
+
+abbrev args_text : List Arg → List ℕ
+args_text args = join_by (λ arg. arg Whole) (codes ", ") (map text_at (terms args))
+
+abbrev args_tokens : List Arg → List Token
+args_tokens args = join_by (λ arg. arg Whole) (word kinds.Comma ∷ []) (map tokens_at (terms args))
+
+args_piece : (args : List Arg) → AreTokens (args_tokens args) → IsPiece (args_text args) (args_tokens args)
 args_piece args a =
-    let texts : join_by (λ arg. arg Whole) (codes ", ") (map text_at (map (λ (e : Arg). e.0) args)) ≡ join_by (λ (e : Arg). text_at e.0 Whole) (codes ", ") args =
-    join_by-map (λ arg. arg Whole) text_at (codes ", ") (map (λ (e : Arg). e.0) args) ∙ join_by-map (λ t. text_at t Whole) (λ (e : Arg). e.0) (codes ", ") args in
-    let tokens : join_by (λ arg. arg Whole) (word kinds.Comma ∷ []) (map tokens_at (map (λ (e : Arg). e.0) args)) ≡ join_by (λ (e : Arg). tokens_at e.0 Whole) (word kinds.Comma ∷ []) args =
-    join_by-map (λ arg. arg Whole) tokens_at (word kinds.Comma ∷ []) (map (λ (e : Arg). e.0) args) ∙ join_by-map (λ t. tokens_at t Whole) (λ (e : Arg). e.0) (word kinds.Comma ∷ []) args in
-    let all = joined_pieces (λ (e : Arg). text_at e.0 Whole) (λ (e : Arg). tokens_at e.0 Whole) (codes ", ") kinds.Comma comma (λ (e : Arg) b. (e.1 Whole b).piece) args (subst AreTokens tokens a) in
-    subst (λ (z : List ℕ). IsPiece z (join_by (λ arg. arg Whole) (word kinds.Comma ∷ []) (map tokens_at (map (λ (e : Arg). e.0) args)))) (sym texts)
-    (subst (λ (us : List Token). IsPiece (join_by (λ (e : Arg). text_at e.0 Whole) (codes ", ") args) us) (sym tokens) all)
+    let text = λ (e : Arg). text_at e.0 Whole in
+    let tokens = λ (e : Arg). tokens_at e.0 Whole in
+    let texts_are : args_text args ≡ join_by text (codes ", ") args =
+    join_by-map (λ arg. arg Whole) text_at (codes ", ") (terms args) ∙ join_by-map (λ t. text_at t Whole) (λ (e : Arg). e.0) (codes ", ") args in
+    let tokens_are : args_tokens args ≡ join_by tokens (word kinds.Comma ∷ []) args =
+    join_by-map (λ arg. arg Whole) tokens_at (word kinds.Comma ∷ []) (terms args) ∙ join_by-map (λ t. tokens_at t Whole) (λ (e : Arg). e.0) (word kinds.Comma ∷ []) args in
+    let all = joined_pieces text tokens (codes ", ") kinds.Comma comma (λ (e : Arg) b. (e.1 Whole b).piece) args (subst AreTokens tokens_are a) in
+    subst (λ (z : List ℕ). IsPiece z (args_tokens args)) (sym texts_are) (subst (IsPiece (join_by text (codes ", ") args)) (sym tokens_are) all)
 
 -- a name with its arguments in parentheses
 call_part : (func args : List ℕ) (ts : List Token) → is_name func ≡ true → IsPiece args ts
@@ -129,20 +120,19 @@ step_part (Term-F.Number q) place a = enclosed_part (encloses_product place) (fr
 step_part Term-F.Null place a = record { opens = refl; piece = reserved (codes "null") kinds.Null refl refl refl }
 step_part (Term-F.Name n) place a = record { opens = name_opens n a.0; piece = named n a.0 }
 step_part (Term-F.Apply func args) place a =
-    let tokens = join_by (λ arg. arg Whole) (word kinds.Comma ∷ []) (map tokens_at (map (λ (e : Arg). e.0) args)) in
-    call_part func _ tokens a.0 (args_piece args (tokens_front tokens (word kinds.CloseRound ∷ []) a.1.1))
+    call_part func (args_text args) (args_tokens args) a.0 (args_piece args (tokens_front (args_tokens args) (word kinds.CloseRound ∷ []) a.1.1))
 step_part (Term-F.Add l r) place a =
     let inner = binary_inner (encloses_sum place) (tokens_at l.0 Whole) (tokens_at r.0 Operand) (word kinds.Plus) a in
-    binary_part (encloses_sum place) _ _ _ _ _ _ (l.1 Whole inner.0) plus (r.1 Operand inner.1)
+    binary_part (encloses_sum place) _ _ _ _ _ _ (l.1 Whole inner.0) plus_sign (r.1 Operand inner.1)
 step_part (Term-F.Sub l r) place a =
     let inner = binary_inner (encloses_sum place) (tokens_at l.0 Whole) (tokens_at r.0 Operand) (word kinds.Minus) a in
-    binary_part (encloses_sum place) _ _ _ _ _ _ (l.1 Whole inner.0) less (r.1 Operand inner.1)
+    binary_part (encloses_sum place) _ _ _ _ _ _ (l.1 Whole inner.0) minus_sign (r.1 Operand inner.1)
 step_part (Term-F.Neg i) place a =
     let inner = i.1 Operand (enclosed_inner (encloses_sum place) (word kinds.Minus ∷ tokens_at i.0 Operand) a).1 in
     enclosed_part (encloses_sum place) (codes "-" ++ text_at i.0 Operand) (word kinds.Minus ∷ tokens_at i.0 Operand) (record { opens = refl; piece = minus inner.opens inner.piece })
 step_part (Term-F.Scale q i) place a =
     let inner = binary_inner (encloses_product place) (frac_tokens q) (tokens_at i.0 Factor) (word kinds.Star) a in
-    binary_part (encloses_product place) _ _ _ _ _ _ (frac_part q inner.0) star (i.1 Factor inner.1)
+    binary_part (encloses_product place) _ _ _ _ _ _ (frac_part q inner.0) times_sign (i.1 Factor inner.1)
 
 layer_part : (y : Term-F Arg) → IsTermPart (roll-Term (map-Term Arg Term (λ e. e.0) y))
 layer_part y =
