@@ -1,0 +1,10 @@
+pub mod Joined
+pub mod Trees
+pub mod Lowest
+pub mod Deriving
+pub mod Counting
+pub mod Measured
+pub mod Derived
+pub mod Real
+pub mod Returning
+pub mod Within
