@@ -1,5 +1,5 @@
 -- The tokens of a derived problem derive it.
-use Rattle.std.proofs.Common.{◌≡◌, ℕ, false, List, [], ◌∷◌, ◌++◌, map, refl, sym, ap, subst, ◌∙◌, append_assoc, append-nil, Option, Some}
+use Rattle.std.proofs.Common.{◌≡◌, ℕ, false, List, [], ◌∷◌, ◌++◌, refl, sym, subst, ◌∙◌, append_assoc, append-nil, Some}
 use Rattle.std.specs.List.{flat_map, join_by}
 use Rattle.std.proofs.lemmas.Grind.{flat_map-append}
 use Rattle.hp_ast.specs.declared.printing.Place.TheVariants.{Whole}
@@ -13,18 +13,17 @@ use Rattle.hp_ast.specs.declared.problem.Problem.{Problem}
 use Rattle.hp_ast.specs.declared.problem.Sort.{Sort}
 use Rattle.hp_ast.specs.declared.problem.Sort.TheVariants.{Num, Idx, Ptr}
 use Rattle.hp_ast.specs.declared.problem.Var.{Var}
-use Rattle.hp_text.specs.declared.token.Kind.{Kind}
 use Rattle.hp_text.specs.declared.token.Kind.TheVariants as kinds
 use Rattle.hp_read.specs.declared.symbol.Symbol.{Symbol as Token}
 use Rattle.hp_read.specs.declared.symbol.Symbol.TheVariants.{Word as word, Name as name, Numeral as numeral}
 use Rattle.hp_read.specs.Token.{same}
-use Rattle.hp_read.specs.Bodies.{relation, atom_of, Separated, one, more, SpellsAtom, SpellsAtoms, SpellsGuard, none, some, SpellsHead, empty, atoms, SpellsBody, body}
+use Rattle.hp_read.specs.Bodies.{relation, Separated, one, more, SpellsAtom, SpellsGuard, none, some, SpellsHead, empty, atoms, SpellsBody, body}
 use Rattle.hp_read.specs.Declarations as lines
-use Rattle.hp_read.specs.Declarations.{SpellsSort, num, idx, ptr, called, constants_of, SpellsVariable, variable, SpellsVariables, variable_of}
+use Rattle.hp_read.specs.Declarations.{SpellsSort, num, idx, ptr, called, constants_of, SpellsVariable, variable, SpellsVariables}
 use Rattle.hp_read.specs.Problems as grammar
 use Rattle.hp_read.specs.Problems.{SpellsDeclaration, constants, function, SpellsItem, clause, query, clause_of, SpellsProfile, missing, given, SpellsDeclarations, SpellsItems, SpellsProblem, problem}
 use Rattle.hp_roundtrip.specs.Printed.{tokens_at, relation_kind, atom_tokens, guard_tokens, head_tokens, sort_tokens, var_tokens, clause_tokens, decl_tokens, problem_tokens}
-use Rattle.hp_roundtrip.proofs.Joined.{some_items, separated}
+use Rattle.hp_roundtrip.proofs.Joined.{some_items, separated, regrouped}
 use Rattle.hp_roundtrip.proofs.Deriving.{term_derived}
 
 -- ---- atoms and bodies
@@ -37,7 +36,7 @@ relation_is Ne = refl
 relation_is Ge = refl
 relation_is Gt = refl
 
-pub atom_derived : (u : List Token) (a : Atom) → SpellsAtom u a → SpellsAtom (atom_tokens a) a
+atom_derived : (u : List Token) (a : Atom) → SpellsAtom u a → SpellsAtom (atom_tokens a) a
 atom_derived u a h =
     let l = term_derived h.left_tokens h.left_term h.left_is in
     let r = term_derived h.right_tokens h.right_term h.right_is in
@@ -75,7 +74,7 @@ body_derived : (u : List Token) (g h : List Atom) → SpellsBody u g h → Spell
 body_derived u g h (body v w gs hs a b) = body _ _ gs hs (guard_derived v gs a) (head_derived w hs b)
 
 -- ---- variables and declarations
-pub sort_derived : (s : Sort) → SpellsSort (sort_tokens s) s
+sort_derived : (s : Sort) → SpellsSort (sort_tokens s) s
 sort_derived Num = num
 sort_derived Idx = idx
 sort_derived Ptr = ptr
@@ -115,7 +114,7 @@ function_derived x u ss s n h =
     ∙ sym (append_assoc sorts value (word kinds.Level ∷ numeral n ∷ word kinds.Semicolon ∷ [])))
     (function _ _ (lines.function x _ _ ss s n k (sort_derived s)))
 
-pub declaration_derived : (u : List Token) (ds : List Decl) → SpellsDeclaration u ds → SpellsDeclarations (flat_map decl_tokens ds) ds
+declaration_derived : (u : List Token) (ds : List Decl) → SpellsDeclaration u ds → SpellsDeclarations (flat_map decl_tokens ds) ds
 declaration_derived u ds (constants v es (lines.constants w x xs s g h)) = constants_derived xs s
 declaration_derived u ds (function v d (lines.function x w y ss s n g h)) = rw (append-nil (decl_tokens (Fun x ss s n))) (alone _ _ (function_derived x w ss s n g))
 
@@ -125,13 +124,12 @@ declarations_derived u ds (grammar.more v w es fs g h) =
     rw (flat_map-append decl_tokens es fs) (joined _ _ es fs (declarations_derived v es g) (declaration_derived w fs h))
 
 -- ---- clauses and problems
-regrouped : (x g h z : List Token) (k : Token) → x ++ (k ∷ ((g ++ h) ++ z)) ≡ (((x ++ k ∷ []) ++ g) ++ h) ++ z
-regrouped x g h z k = simp append_assoc
-
 item_derived : (u : List Token) (c : Clause) → SpellsItem u c → SpellsItem (clause_tokens c) c
 item_derived u c (clause v w vs g h a b) =
+    let variables : List Token = join_by var_tokens (word kinds.Comma ∷ []) vs in
     subst (λ z. SpellsItem (word kinds.Clause ∷ word kinds.OpenSquare ∷ z) (clause_of false vs g h))
-    (regrouped (join_by var_tokens (word kinds.Comma ∷ []) vs) (guard_tokens g) (head_tokens h) (word kinds.Semicolon ∷ []) (word kinds.CloseSquare))
+    (sym (append_assoc variables (word kinds.CloseSquare ∷ []) ((guard_tokens g ++ head_tokens h) ++ (word kinds.Semicolon ∷ [])))
+    ∙ regrouped (variables ++ word kinds.CloseSquare ∷ []) (guard_tokens g) (head_tokens h) (word kinds.Semicolon ∷ []))
     (clause _ _ vs g h (variables_derived v vs a) (body_derived w g h b))
 item_derived u c (query v g h b) = query _ g h (body_derived v g h b)
 

@@ -1,15 +1,14 @@
 -- The tokens of a derived term derive it, at each place.
-use Rattle.std.proofs.Common.{◌≡◌, ℕ, List, [], ◌∷◌, ◌++◌, refl, sym, ap, append-nil}
-use Rattle.hp_math.specs.Rational.{ℚ}
+use Rattle.std.proofs.Common.{◌≡◌, List, [], ◌∷◌, ◌++◌, append-nil}
 use Rattle.hp_ast.specs.declared.term.Term.{Term}
 use Rattle.hp_ast.specs.declared.printing.Place.{Place}
 use Rattle.hp_ast.specs.declared.printing.Place.TheVariants.{Whole, Operand, Factor}
 use Rattle.hp_text.specs.declared.token.Kind.TheVariants as kinds
 use Rattle.hp_read.specs.declared.symbol.Symbol.{Symbol as Token}
-use Rattle.hp_read.specs.declared.symbol.Symbol.TheVariants.{Word as word, Name as name, Numeral as numeral}
+use Rattle.hp_read.specs.declared.symbol.Symbol.TheVariants.{Word as word}
 use Rattle.hp_read.specs.Tree.{number_of, null, named, apply, add, sub, neg, scale}
-use Rattle.hp_read.specs.Grammar.{SpellsNumber, SpellsTerm, SpellsPart, SpellsFactor, SpellsTerms, part, minus, sum, difference, number, product, factor, single, call, nothing, group, first, more}
-use Rattle.hp_roundtrip.specs.Printed.{tokens_at, frac_tokens}
+use Rattle.hp_read.specs.Grammar.{SpellsTerm, SpellsPart, SpellsFactor, SpellsTerms, part, minus, sum, difference, number, product, factor, single, call, nothing, group, first, more}
+use Rattle.hp_roundtrip.specs.Printed.{tokens_at}
 use Rattle.hp_roundtrip.proofs.Joined.{join_by-append, not_empty}
 use Rattle.hp_roundtrip.proofs.Lowest.{number_derived}
 use Rattle.hp_roundtrip.proofs.Trees.{arguments_tokens, tokens-number_of, tokens-null, tokens-named, tokens-apply, tokens-add, tokens-sub, tokens-neg, tokens-scale}
@@ -53,7 +52,7 @@ mutual
       let r = part_derived w b h in
       open_sum (sub a b) _ (tokens-sub a b Whole) (tokens-sub a b Operand) (tokens-sub a b Factor) (difference _ _ a b s.whole r.operand)
 
-  pub part_derived : (u : List Token) (t : Term) → SpellsPart u t → IsDerived t
+  part_derived : (u : List Token) (t : Term) → SpellsPart u t → IsDerived t
   part_derived u t (number v q h) =
       open_product (number_of q) _ (tokens-number_of q Whole) (tokens-number_of q Operand) (tokens-number_of q Factor) (number _ q (number_derived v q h))
   part_derived u t (product v w q a g h) =
@@ -61,13 +60,13 @@ mutual
       open_product (scale q a) _ (tokens-scale q a Whole) (tokens-scale q a Operand) (tokens-scale q a Factor) (product _ _ q a (number_derived v q g) s.as_factor)
   part_derived u t (factor v a h) = factor_derived v a h
 
-  pub factor_derived : (u : List Token) (t : Term) → SpellsFactor u t → IsDerived t
+  factor_derived : (u : List Token) (t : Term) → SpellsFactor u t → IsDerived t
   factor_derived u t (single n) = closed (named n) _ (tokens-named n) (single n)
   factor_derived u t (call n v ts h) = closed (apply n ts) _ (tokens-apply n ts) (call n _ ts (terms_derived v ts h))
   factor_derived u t nothing = closed null _ tokens-null nothing
   factor_derived u t (group v a h) = term_derived v a h
 
-  pub terms_derived : (u : List Token) (ts : List Term) → SpellsTerms u ts → SpellsTerms (arguments_tokens ts) ts
+  terms_derived : (u : List Token) (ts : List Term) → SpellsTerms u ts → SpellsTerms (arguments_tokens ts) ts
   terms_derived u ts (first v t h) = rw append-nil (first _ t (term_derived v t h).whole)
   terms_derived u ts (more v w bs t g h) =
       rw (join_by-append (λ a. tokens_at a Whole) (word kinds.Comma ∷ []) bs t (some_terms v bs g))

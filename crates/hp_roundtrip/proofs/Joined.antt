@@ -36,3 +36,7 @@ separated Spells tokens k each u xs (one v a h) = rw append-nil (one (tokens a) 
 separated Spells tokens k each u xs (more v w ys a g h) =
     rw (join_by-append tokens (word k ∷ []) ys a (some_items Spells k v ys g))
     (more (join_by tokens (word k ∷ []) ys) (tokens a) ys a (separated Spells tokens k each v ys g) (each w a h))
+
+-- what stands before a body, the body, and what stands behind it
+pub regrouped : (x g h z : List Token) → x ++ ((g ++ h) ++ z) ≡ ((x ++ g) ++ h) ++ z
+regrouped x g h z = simp append_assoc

@@ -1,7 +1,7 @@
 -- The tokens of a derived term pass the limits wherever its text does.
-use Rattle.std.proofs.Common.{◌≡◌, ℕ, ◌+◌, Bool, true, false, List, [], ◌∷◌, ◌++◌, refl, sym, ap, append-nil, arith}
+use Rattle.std.proofs.Common.{◌≡◌, ℕ, ◌+◌, Bool, true, false, List, [], ◌∷◌, ◌++◌, refl, append-nil, arith}
 use Rattle.std.specs.Prelude.{pos}
-use Rattle.hp_math.specs.Rational.{ℚ, ratio, is_whole}
+use Rattle.hp_math.specs.Rational.{ℚ, ratio}
 use Rattle.hp_ast.specs.declared.term.Term.{Term}
 use Rattle.hp_ast.specs.declared.printing.Place.{Place}
 use Rattle.hp_ast.specs.declared.printing.Place.TheVariants.{Whole, Operand, Factor}
@@ -76,7 +76,7 @@ mutual
       open_sum (v ++ word kinds.Minus ∷ w) _ (sub a b) (tokens-sub a b Whole) (tokens-sub a b Operand) (tokens-sub a b Factor)
       (sign_follows kinds.Minus minus_sign v w _ _ s.whole r.operand)
 
-  pub part_measured : (u : List Token) (t : Term) → SpellsPart u t → IsMeasured 0 1 u t
+  part_measured : (u : List Token) (t : Term) → SpellsPart u t → IsMeasured 0 1 u t
   part_measured u t (number v q h) =
       open_product v _ (number_of q) (tokens-number_of q Whole) (tokens-number_of q Operand) (tokens-number_of q Factor) (number_measured v q h)
   part_measured u t (product v w q a g h) =
@@ -87,7 +87,7 @@ mutual
       let s = factor_measured v a h in
       record { whole = s.whole; operand = s.operand; as_factor = weaker 0 1 v _ (omega arith) s.as_factor }
 
-  pub factor_measured : (u : List Token) (t : Term) → SpellsFactor u t → IsMeasured 0 0 u t
+  factor_measured : (u : List Token) (t : Term) → SpellsFactor u t → IsMeasured 0 0 u t
   factor_measured u t (single n) = closed (name n ∷ []) _ (named n) (tokens-named n) (plain_follows _ _ (name_plain n) (name_plain n))
   factor_measured u t (call n v ts h) =
       closed (name n ∷ word kinds.OpenRound ∷ v ++ word kinds.CloseRound ∷ []) _ (apply n ts) (tokens-apply n ts) (call_follows n v _ (terms_measured v ts h))
@@ -100,7 +100,7 @@ mutual
         as_factor = group_follows 0 v _ s.as_factor;
       }
 
-  pub terms_measured : (u : List Token) (ts : List Term) → SpellsTerms u ts → Follows 0 u (arguments_tokens ts)
+  terms_measured : (u : List Token) (ts : List Term) → SpellsTerms u ts → Follows 0 u (arguments_tokens ts)
   terms_measured u ts (first v t h) = rw append-nil (term_measured v t h).whole
   terms_measured u ts (more v w bs t g h) =
       rw (join_by-append (λ a. tokens_at a Whole) (word kinds.Comma ∷ []) bs t (some_terms v bs g))

@@ -1,11 +1,11 @@
 -- The tokens of a derived problem are names and numerals that a text has.
-use Rattle.std.proofs.Common.{◌≡◌, ℕ, ◌^◌, ◌<◌, ◌≤◌, Bool, true, false, List, [], ◌∷◌, ◌++◌, refl, sym, ap, subst, append-nil, arith, lit<}
+use Rattle.std.proofs.Common.{◌≡◌, ℕ, ◌^◌, ◌<◌, ◌≤◌, Bool, true, false, List, [], ◌∷◌, ◌++◌, refl, sym, subst, append-nil, arith}
 use Rattle.std.specs.Prelude.{pos, nat_lt}
 use Rattle.std.specs.List.{flat_map, join_by}
 use Rattle.std.proofs.lemmas.Bool.{ltb-true, lt-ltb}
 use Rattle.std.proofs.lemmas.Grind.{flat_map-append}
 use Rattle.std.proofs.lemmas.List.{map-append}
-use Rattle.hp_math.specs.Rational.{ℚ, ratio, is_whole}
+use Rattle.hp_math.specs.Rational.{ℚ, ratio}
 use Rattle.hp_ast.specs.declared.term.Term.{Term}
 use Rattle.hp_ast.specs.declared.printing.Place.{Place}
 use Rattle.hp_ast.specs.declared.printing.Place.TheVariants.{Whole, Operand, Factor}
@@ -25,16 +25,15 @@ use Rattle.hp_text.specs.declared.token.Kind.TheVariants as kinds
 use Rattle.hp_read.specs.declared.symbol.Symbol.{Symbol as Token}
 use Rattle.hp_read.specs.declared.symbol.Symbol.TheVariants.{Word as word, Name as name, Numeral as numeral}
 use Rattle.hp_read.specs.Token.{is_word, is_token, AreTokens}
-use Rattle.hp_read.specs.Tree.{number_of, null, named, apply, add, sub, neg, scale}
 use Rattle.hp_read.specs.Grammar as terms
 use Rattle.hp_read.specs.Grammar.{SpellsNumber, SpellsTerm, SpellsPart, SpellsFactor, SpellsTerms, whole, fraction, part, minus, sum, difference, number, product, factor, single, call, nothing, group, first}
-use Rattle.hp_read.specs.Bodies.{Separated, one, more, SpellsAtom, SpellsAtoms, SpellsGuard, none, some, SpellsHead, empty, atoms, SpellsBody, body}
+use Rattle.hp_read.specs.Bodies.{Separated, one, more, SpellsAtom, SpellsGuard, none, some, SpellsHead, empty, atoms, SpellsBody, body}
 use Rattle.hp_read.specs.Declarations as lines
 use Rattle.hp_read.specs.Declarations.{SpellsSort, SpellsName, called, constants_of, SpellsVariable, variable, SpellsVariables}
 use Rattle.hp_read.specs.Problems as grammar
 use Rattle.hp_read.specs.Problems.{SpellsDeclaration, constants, function, SpellsItem, clause, query, SpellsProfile, missing, given, SpellsDeclarations, SpellsItems, SpellsProblem, problem}
 use Rattle.hp_read.proofs.Machines.{are_both}
-use Rattle.hp_roundtrip.specs.Printed.{tokens_at, frac_tokens, enclosed_tokens, relation_kind, atom_tokens, guard_tokens, head_tokens, sort_kind, sort_tokens, var_tokens, clause_tokens, decl_tokens, problem_tokens}
+use Rattle.hp_roundtrip.specs.Printed.{tokens_at, frac_tokens, enclosed_tokens, relation_kind, atom_tokens, guard_tokens, head_tokens, sort_tokens, var_tokens, clause_tokens, decl_tokens, problem_tokens}
 use Rattle.hp_roundtrip.proofs.Joined.{join_by-append, some_items}
 use Rattle.hp_roundtrip.proofs.Lowest.{is_low, low_tokens, tokens-low}
 use Rattle.hp_roundtrip.proofs.Trees.{arguments_tokens, tokens-number_of, tokens-null, tokens-named, tokens-apply, tokens-add, tokens-sub, tokens-neg, tokens-scale}
@@ -74,7 +73,7 @@ number_real u q (fraction n d p) r =
 
 -- ---- terms
 mutual
-  pub term_real : (u : List Token) (t : Term) → SpellsTerm u t → AreTokens u → (place : Place) → AreTokens (tokens_at t place)
+  term_real : (u : List Token) (t : Term) → SpellsTerm u t → AreTokens u → (place : Place) → AreTokens (tokens_at t place)
   term_real u t (part v a h) r place = part_real v a h r place
   term_real u t (minus v a h) r place =
       rw (tokens-neg a place) (enclosed (encloses_sum place) (word kinds.Minus ∷ tokens_at a Operand) (refl, part_real v a h r.1 Operand))
@@ -191,10 +190,18 @@ declaration_real u ds (function v d (lines.function x w y ss s n g h)) r =
     let value : List Token = word kinds.CloseRound ∷ word kinds.Colon ∷ sort_tokens s in
     let p = parts w behind (parts (w ++ behind) (word kinds.Semicolon ∷ []) r.1.1.1).0 in
     let q = parts y (word kinds.Level ∷ numeral n ∷ []) p.1.1.1 in
-    alone_real (Fun x ss s n)
-    (refl, (r.1.0, (refl, are_both (sorts ++ value) (word kinds.Level ∷ numeral n ∷ word kinds.Semicolon ∷ [])
-    (are_both sorts value (separated_real SpellsSort sort_tokens kinds.Comma refl (λ v a g r. sort_real a) w ss g p.0) (refl, (refl, sort_real s)))
-    (refl, (q.1.1.0, (refl, tt))))))
+    alone_real (Fun x ss s n) (
+      refl,
+      (
+        r.1.0,
+        (
+          refl,
+          are_both (sorts ++ value) (word kinds.Level ∷ numeral n ∷ word kinds.Semicolon ∷ [])
+              (are_both sorts value (separated_real SpellsSort sort_tokens kinds.Comma refl (λ v a g r. sort_real a) w ss g p.0) (refl, (refl, sort_real s)))
+              (refl, (q.1.1.0, (refl, tt))),
+        ),
+      ),
+    )
 
 declarations_real : (u : List Token) (ds : List Decl) → SpellsDeclarations u ds → AreTokens u → AreTokens (flat_map decl_tokens ds)
 declarations_real u ds grammar.none r = tt

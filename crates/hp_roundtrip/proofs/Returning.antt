@@ -1,12 +1,12 @@
 -- Tokens at the top of a text, that end with no parenthesis open and with no sign counted.
-use Rattle.std.proofs.Common.{◌≡◌, ℕ, ◌+◌, Bool, true, false, List, [], ◌∷◌, ◌++◌, Option, Some, None, refl, sym, ap, subst, ◌∙◌, arith}
+use Rattle.std.proofs.Common.{◌≡◌, ℕ, Bool, true, false, List, [], ◌∷◌, ◌++◌, Some, refl, sym, ap, subst, ◌∙◌, arith}
 use Rattle.hp_text.specs.declared.token.Kind.{Kind}
 use Rattle.hp_text.specs.declared.token.Kind.TheVariants as kinds
 use Rattle.hp_read.specs.declared.symbol.Symbol.{Symbol as Token}
 use Rattle.hp_read.specs.declared.symbol.Symbol.TheVariants.{Word as word, Name as name, Numeral as numeral}
 use Rattle.hp_read.specs.Token.{same}
 use Rattle.hp_read.specs.declared.counts.Counts.{Counts}
-use Rattle.hp_read.specs.Counts.{counts_of, nothing_counted, new_atom, inside, ends_atom, count_other, count_sign, count_word, count}
+use Rattle.hp_read.specs.Counts.{counts_of, nothing_counted, new_atom, ends_atom, count_other, count_sign, count_word, count}
 use Rattle.hp_read.specs.Machine.{◌and_then◌, runs}
 use Rattle.hp_read.specs.Bodies.{Separated, one, more}
 use Rattle.hp_read.proofs.Machines.{runs_on}
@@ -28,7 +28,7 @@ pub arrow_end : IsEnd kinds.Arrow
 unfolding same count_word count_sign count_other ends_atom
 arrow_end c = refl
 
-pub semicolon_end : IsEnd kinds.Semicolon
+semicolon_end : IsEnd kinds.Semicolon
 unfolding same count_word count_sign count_other ends_atom
 semicolon_end c = refl
 

@@ -1,8 +1,7 @@
 -- The tokens of a derived problem pass the limits where its text does.
-use Rattle.std.proofs.Common.{◌≡◌, ℕ, false, List, [], ◌∷◌, ◌++◌, Option, Some, None, refl, sym, ap, subst, ◌∙◌, append_assoc, append-nil}
+use Rattle.std.proofs.Common.{◌≡◌, ℕ, false, List, [], ◌∷◌, ◌++◌, Some, refl, sym, ap, subst, ◌∙◌, append_assoc, append-nil}
 use Rattle.std.specs.List.{flat_map, join_by}
 use Rattle.std.proofs.lemmas.Grind.{flat_map-append}
-use Rattle.hp_ast.specs.declared.printing.Place.TheVariants.{Whole}
 use Rattle.hp_ast.specs.declared.problem.Atom.{Atom}
 use Rattle.hp_ast.specs.declared.problem.Clause.{Clause}
 use Rattle.hp_ast.specs.declared.problem.Cmp.{Cmp}
@@ -14,19 +13,19 @@ use Rattle.hp_ast.specs.declared.problem.Var.{Var}
 use Rattle.hp_text.specs.declared.token.Kind.{Kind}
 use Rattle.hp_text.specs.declared.token.Kind.TheVariants as kinds
 use Rattle.hp_read.specs.declared.symbol.Symbol.{Symbol as Token}
-use Rattle.hp_read.specs.declared.symbol.Symbol.TheVariants.{Word as word, Name as name, Numeral as numeral}
+use Rattle.hp_read.specs.declared.symbol.Symbol.TheVariants.{Word as word, Numeral as numeral}
 use Rattle.hp_read.specs.Token.{same}
-use Rattle.hp_read.specs.Counts.{inside, ends_atom, count_other, count_sign, count_word, nothing_counted}
+use Rattle.hp_read.specs.Counts.{ends_atom, count_other, count_sign, count_word, nothing_counted}
 use Rattle.hp_read.specs.Faults.{IsWithin}
-use Rattle.hp_read.specs.Bodies.{relation, atom_of, one, more, SpellsAtom, SpellsAtoms, SpellsGuard, none, some, SpellsHead, empty, atoms, SpellsBody, body}
+use Rattle.hp_read.specs.Bodies.{relation, atom_of, one, more, SpellsAtom, SpellsAtoms, none, some, SpellsHead, empty, atoms, SpellsBody, body}
 use Rattle.hp_read.specs.Declarations as lines
 use Rattle.hp_read.specs.Declarations.{SpellsSort, num, idx, ptr, SpellsName, called, SpellsConstants, SpellsFunction, SpellsVariable, variable, SpellsVariables}
 use Rattle.hp_read.specs.Problems as grammar
 use Rattle.hp_read.specs.Problems.{SpellsDeclaration, constants, function, SpellsItem, clause, query, clause_of, SpellsProfile, missing, given, SpellsDeclarations, SpellsItems, SpellsProblem, problem}
-use Rattle.hp_roundtrip.specs.Printed.{tokens_at, relation_kind, atom_tokens, guard_tokens, head_tokens, var_tokens, clause_tokens, decl_tokens, problem_tokens}
-use Rattle.hp_roundtrip.proofs.Joined.{join_by-append, some_items}
+use Rattle.hp_roundtrip.specs.Printed.{relation_kind, atom_tokens, guard_tokens, head_tokens, var_tokens, clause_tokens, decl_tokens, problem_tokens}
+use Rattle.hp_roundtrip.proofs.Joined.{join_by-append, some_items, regrouped}
 use Rattle.hp_roundtrip.proofs.Derived.{guard-some, head-some, variables_derived, declarations_derived}
-use Rattle.hp_roundtrip.proofs.Counting.{Follows, other_follows, IsOther, comma_other}
+use Rattle.hp_roundtrip.proofs.Counting.{other_follows, IsOther}
 use Rattle.hp_roundtrip.proofs.Measured.{term_measured}
 use Rattle.hp_roundtrip.proofs.Returning.{Agrees, follows_agree, idle_agrees, end_agrees, IsEnd, and_end, or_end, arrow_end, Returns, append_returns, end_returns, IsIdle, idle_returns, append_idle, IsLoose, append_loose, other_loose, name_loose, numeral_loose, nothing_loose, round_loose, separated_loose, line_idle, opening_idle}
 
@@ -55,7 +54,7 @@ atom_agrees u a h =
     let left = term_measured h.left_tokens h.left_term h.left_is in
     let right = term_measured h.right_tokens h.right_term h.right_is in
     let split : u ≡ h.left_tokens ++ word (relation_kind h.cmp_of) ∷ h.right_tokens =
-        h.tokens ∙ ap (λ k. h.left_tokens ++ word k ∷ h.right_tokens) (sign_is h.sign h.cmp_of h.rel_is) in
+    h.tokens ∙ ap (λ k. h.left_tokens ++ word k ∷ h.right_tokens) (sign_is h.sign h.cmp_of h.rel_is) in
     subst (λ b. Agrees u (atom_tokens b)) (sym h.atom) (subst (λ z. Agrees z (atom_tokens (atom_of h.left_term h.cmp_of h.right_term))) (sym split)
     (follows_agree _ _ (other_follows (relation_kind h.cmp_of) (relation_other h.cmp_of) h.left_tokens h.right_tokens _ _ left.whole right.whole)))
 
@@ -135,9 +134,6 @@ query_idle : IsIdle (word kinds.Query ∷ [])
 unfolding same count_word count_sign count_other ends_atom
 query_idle = refl
 
-regrouped : (x g h z : List Token) → x ++ ((g ++ h) ++ z) ≡ ((x ++ g) ++ h) ++ z
-regrouped x g h z = simp append_assoc
-
 item_returns : (u : List Token) (c : Clause) → SpellsItem u c → Returns u (clause_tokens c)
 item_returns u c (clause v w vs g h a b) =
     let end : List Token = word kinds.Semicolon ∷ [] in
@@ -169,5 +165,5 @@ problem_within ts p (problem u v w n ds cs f g h) i =
     let top : List Token = word kinds.Profile ∷ numeral n ∷ word kinds.Semicolon ∷ [] in
     let declared = idle_returns v (flat_map decl_tokens ds) (declarations_idle v ds g) (declarations_idle _ ds (declarations_derived v ds g)) in
     let all = append_returns u (v ++ w) top (flat_map decl_tokens ds ++ flat_map clause_tokens cs) (idle_returns u top (read_profile_idle u n f) (profile_idle n))
-        (append_returns v w (flat_map decl_tokens ds) (flat_map clause_tokens cs) declared (items_return w cs h)) in
+    (append_returns v w (flat_map decl_tokens ds) (flat_map clause_tokens cs) declared (items_return w cs h)) in
     (nothing_counted, (all.returns i.0 i.1).1)
