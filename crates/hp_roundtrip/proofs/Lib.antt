@@ -8,3 +8,4 @@ pub mod Derived
 pub mod Real
 pub mod Returning
 pub mod Within
+pub mod Spelled

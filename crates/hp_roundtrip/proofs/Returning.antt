@@ -36,7 +36,7 @@ semicolon_end c = refl
 end_runs : (k : Kind) → IsEnd k → (v : List Token) (a : Counts) → a.open_round ≡ 0 → runs count a (word k ∷ v) ≡ runs count nothing_counted v
 end_runs k is v a z = ap (λ x. x and_then λ b. runs count b v) (is a) ∙ ap (λ o. runs count (counts_of o 0 false) v) z
 
--- ---- v counts what u counts
+-- ---- where u is counted from nothing, v is counted to the same, and leaves no parenthesis open
 pub record Agrees (u v : List Token) : Type 0 where
   pub agrees : (c : Counts) → runs count nothing_counted u ≡ Some c → (c.open_round ≡ 0) × (runs count nothing_counted v ≡ Some c)
 
@@ -63,7 +63,7 @@ end_agrees k is u v x y g h = record {
       (b.0, runs_on count x (word k ∷ y) nothing_counted r.0 f.1 ∙ (end_runs k is y r.0 f.0 ∙ b.1));
 }
 
--- ---- u and v leave nothing counted
+-- ---- where u is counted from nothing, it and v leave nothing counted
 pub record Returns (u v : List Token) : Type 0 where
   pub returns : (c : Counts) → runs count nothing_counted u ≡ Some c → (c ≡ nothing_counted) × (runs count nothing_counted v ≡ Some nothing_counted)
 
