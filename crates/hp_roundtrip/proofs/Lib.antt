@@ -6,3 +6,14 @@ pub mod Minus
 pub mod Lists
 pub mod TermsCut
 pub mod ProblemsCut
+pub mod Joined
+pub mod Trees
+pub mod Lowest
+pub mod Deriving
+pub mod Counting
+pub mod Measured
+pub mod Derived
+pub mod Real
+pub mod Returning
+pub mod Within
+pub mod Spelled

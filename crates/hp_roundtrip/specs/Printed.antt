@@ -1,5 +1,5 @@
 -- The tokens of the printed text of a problem and of each of its parts, in the order in which the text has them.
-use Rattle.std.specs.Prelude.{ℕ, ℤ, pos, Bool, true, false, if◌then◌else◌, List, [], ◌∷◌, ◌++◌, unsigned_abs}
+use Rattle.std.specs.Prelude.{ℤ, pos, Bool, true, false, if◌then◌else◌, List, [], ◌∷◌, ◌++◌, unsigned_abs}
 use Rattle.std.specs.List.{flat_map, join_by}
 use Rattle.hp_math.specs.Rational.{ℚ, is_whole}
 use Rattle.hp_text.specs.declared.token.Kind.{Kind}
