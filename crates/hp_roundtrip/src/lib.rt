@@ -1,0 +1,7 @@
+//! Reading and printing are inverse to one another: the printed text of a problem that some text spells
+//! spells that problem again.
+#![tactic(auto)]
+
+mod laws;
+
+pub use laws::printed_text_spells;
