@@ -1,5 +1,5 @@
 -- Two sorted lists of summands, merged step by step.
-use Rattle.std.proofs.Common.{◌≡◌, ℕ, ◌+◌, ◌<◌, ◌≤◌, Bool, true, false, cond, nat_lt, pos, List, [], ◌∷◌, ◌++◌, length, get_or, drop, Ok, Err, refl, sym, ap, subst, ◌∙◌, append-nil, append_assoc, inl, inr, ◌⊎◌, ◌-◌, take, length-drop, arith}
+use Rattle.std.proofs.Common.{◌≡◌, ℕ, ◌<◌, ◌≤◌, Bool, true, false, cond, nat_lt, pos, List, [], ◌∷◌, ◌++◌, length, drop, Ok, Err, refl, sym, ap, ◌∙◌, append-nil, inl, inr, ◌⊎◌, ◌-◌, take, length-drop, arith}
 use Rattle.std.proofs.lemmas.Bool.{lt-ltb, le-ltb}
 use Rattle.std.proofs.lemmas.List.{drop_all, take_all}
 use Rattle.hp_math.specs.Rational.{ℚ, whole, eq_ℚ}
@@ -7,13 +7,11 @@ use Rattle.hp_norm.proofs.Numbers.{eq_ℚ-true, eq_ℚ-from}
 use Rattle.hp_base.specs.declared.literal.Name.{Name}
 use Rattle.hp_linear.specs.declared.form.Summand.{Summand}
 use Rattle.hp_linear.specs.declared.form.Refusal.{Refusal}
-use Rattle.hp_linear.specs.declared.form.Refusal.TheVariants.{Other, Wide, Memory}
-use Rattle.hp_linear.specs.declared.summands.Taken.{Taken}
 use Rattle.hp_linear.specs.declared.summands.Taken.TheVariants.{Left, Right, Both}
 use Rattle.hp_linear.specs.Steps.{Refusable, ◌>>=◌, behind}
-use Rattle.hp_linear.specs.Forms.{copies, plus_summands, sum_of, times_summands, product_of, unless_zero}
-use Rattle.hp_linear.specs.Answers.{Answers, Took}
-use Rattle.hp_linear.proofs.Refusals.{behind_nothing, behind_behind}
+use Rattle.hp_linear.specs.Forms.{copies, plus_summands, sum_of, unless_zero}
+use Rattle.hp_linear.specs.Answers.{Took}
+use Rattle.hp_linear.proofs.Refusals.{behind_behind}
 
 -- ---- a coefficient that is 0, and one that isn't
 pub zero_dropped : (name : Name) (coef : ℚ) → coef ≡ whole (pos 0) → unless_zero name coef ≡ []

@@ -1,5 +1,5 @@
 -- The form of a constant.
-use Rattle.std.proofs.Common.{◌≡◌, pos, List, [], ◌∷◌, ◌++◌, Option, Some, Ok, sym, ap, ◌∙◌}
+use Rattle.std.proofs.Common.{◌≡◌, pos, List, [], ◌∷◌, Option, Some, Ok, sym, ap, ◌∙◌}
 use Rattle.hp_math.specs.Rational.{ℚ, ratio, whole}
 use Rattle.hp_base.specs.declared.literal.Name.{Name}
 use Rattle.hp_linear.specs.declared.form.Summand.{Summand}

@@ -1,13 +1,12 @@
 -- The literals of an atom are in normal form.
-use Rattle.std.proofs.Common.{◌≡◌, ℕ, zero, suc, ◌+◌, ◌*◌, ◌/◌, ◌<◌, ◌≤◌, ◌^◌, ℤ, pos, neg_ℤ, ◌*ℤ◌, unsigned_abs, List, [], ◌∷◌, ◌++◌, map, length, Ok, Err, refl, sym, ap, subst, ◌∙◌, arith}
+use Rattle.std.proofs.Common.{◌≡◌, ℕ, zero, suc, ◌*◌, ◌/◌, ◌<◌, ◌≤◌, ◌^◌, ℤ, pos, neg_ℤ, ◌*ℤ◌, unsigned_abs, List, [], ◌∷◌, map, length, Ok, sym, ap, subst, ◌∙◌, arith}
 use Rattle.std.specs.Prelude.{int_div}
 use Rattle.std.specs.List.{All}
 use Rattle.std.proofs.lemmas.Int.{ints}
 use Rattle.std.proofs.lemmas.List.Elements.{All-nil, All-cons}
 use Rattle.std.proofs.Math.Nat.{div-mul_cancel}
 use Prim.Native.Nat.{◌∣◌}
-use borrow.Author.Differences.{neg_is}
-use Rattle.hp_math.specs.Rational.{ℚ, whole, magnitude}
+use Rattle.hp_math.specs.Rational.{magnitude}
 use Rattle.hp_math.proofs.Whole.{*ℤ_cancel, up-*ℤ, down-*ℤ}
 use Rattle.hp_math.proofs.Parts.{abs-magnitude, magnitude-neg_ℤ, zero_from_num}
 use Rattle.hp_num.proofs.Reduce.{whole_quotient}
@@ -24,12 +23,12 @@ use Rattle.hp_linear.specs.declared.atoms.Step.TheVariants.{Done, Other, Wide, M
 use Rattle.hp_linear.specs.declared.form.Summand.{Summand}
 use Rattle.hp_linear.specs.declared.form.Form.{Form}
 use Rattle.hp_linear.specs.declared.wholes.Row.{Row}
-use Rattle.hp_linear.specs.Steps.{Refusable, ◌>>=◌, behind}
+use Rattle.hp_linear.specs.Steps.{◌>>=◌, behind}
 use Rattle.hp_linear.specs.Forms.{lin_of, minus_form}
 use Rattle.hp_linear.specs.Wholes.{denominator_of, lowest_row, one_if_zero, over, row_divisor, row_of, row_over, row_with, scaled_number, scaled_parts, scaled_row, whole_copies}
 use Rattle.hp_linear.specs.Literals.{apart_literals, compared, literals, num_literals, one_literal, row_literal, taken}
-use Rattle.hp_linear.specs.Normal.{AreNormalParts, IsNormal, IsNormalPart}
-use Rattle.hp_linear.specs.Answers.{Answers, Pushed, Written}
+use Rattle.hp_linear.specs.Normal.{AreNormalParts, IsNormal}
+use Rattle.hp_linear.specs.Answers.{Pushed, Written}
 use Rattle.hp_linear.proofs.Refusals.{came, ok_same}
 use Rattle.hp_linear.proofs.Rows.{AreDivisors, AreMultiples, IsDenominator, IsDivisor, denominator_gave, lowest_divides, scaled_gave, some_share}
 use Rattle.hp_linear.proofs.Normals.{AreNormal, IsNormalForm, minus_form-normal, term_normal}

@@ -1,5 +1,5 @@
 -- A form over whole numbers is in proportion to the form that it comes from.
-use Rattle.std.proofs.Common.{◌≡◌, ◌↔◌, ℕ, zero, suc, ◌*◌, ◌/◌, ◌<◌, ◌^◌, Bool, true, false, cond, nat_eq, nat_lt, ℤ, pos, neg_ℤ, ◌*ℤ◌, unsigned_abs, List, [], ◌∷◌, map, Result, Ok, Err, inl, inr, refl, sym, ap, subst, ◌∙◌, arith}
+use Rattle.std.proofs.Common.{◌≡◌, ◌↔◌, ℕ, zero, suc, ◌*◌, ◌/◌, ◌<◌, ◌^◌, Bool, true, false, cond, nat_eq, nat_lt, ℤ, pos, ◌*ℤ◌, unsigned_abs, List, [], ◌∷◌, map, Result, Ok, Err, inl, inr, refl, sym, ap, subst, ◌∙◌, arith}
 use Rattle.std.specs.Prelude.{int_div}
 use Rattle.std.proofs.lemmas.Int.{ints}
 use Rattle.std.proofs.lemmas.Bool.{eq-eqb, cases_lt}
@@ -23,7 +23,7 @@ use Rattle.hp_linear.specs.declared.form.Summand.{Summand}
 use Rattle.hp_linear.specs.declared.form.Form.{Form}
 use Rattle.hp_linear.specs.declared.wholes.Row.{Row}
 use Rattle.hp_linear.specs.declared.form.Refusal.TheVariants.{Wide}
-use Rattle.hp_linear.specs.Steps.{Refusable, ◌>>=◌, behind, gcd, unless_wide}
+use Rattle.hp_linear.specs.Steps.{◌>>=◌, behind, gcd, unless_wide}
 use Rattle.hp_linear.specs.Forms.{minus_form}
 use Rattle.hp_linear.specs.Wholes.{denominator_of, lcm_of, lowest_row, multiple_of, one_if_zero, over, parts_divisor, row_divisor, row_of, row_over, row_with, scaled_number, scaled_parts, scaled_row, whole_copies}
 use Rattle.hp_linear.specs.Literals.{compared, row_literal}

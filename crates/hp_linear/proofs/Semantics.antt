@@ -1,5 +1,5 @@
 -- A term has the value of its form.
-use Rattle.std.proofs.Common.{◌≡◌, ℕ, pos, List, [], ◌∷◌, Option, Some, None, Ok, Err, map, refl, sym, ap, subst, ◌∙◌}
+use Rattle.std.proofs.Common.{◌≡◌, ℕ, pos, List, [], ◌∷◌, Option, Some, None, Ok, map, refl, sym, ap, subst, ◌∙◌}
 use Rattle.hp_math.specs.Rational.{ℚ, whole, ◌+ℚ◌, ◌-ℚ◌, ◌*ℚ◌, neg_ℚ}
 use Rattle.hp_math.proofs.Field.{+ℚ_zero}
 use Rattle.hp_ast.specs.declared.term.Term.{Term, fold-roll-Term, ind-Term, roll-Term, map-Term}
@@ -15,7 +15,7 @@ use Rattle.hp_norm.proofs.Semantics as index
 use Rattle.hp_linear.specs.declared.form.Form.{Form}
 use Rattle.hp_linear.specs.Steps.{Refusable, ◌>>=◌}
 use Rattle.hp_linear.specs.Forms.{copies, form_step, form_with, lin_of, minus_form, named_form, neg_form, number_form, plus_form, times_form}
-use Rattle.hp_linear.specs.Values.{entry_name, entry_value, form_value, summands_value}
+use Rattle.hp_linear.specs.Values.{entry_name, entry_value, form_value}
 use Rattle.hp_linear.specs.Laws.{TermsHaveFormValues}
 use Rattle.hp_linear.proofs.Refusals.{came, ok_same}
 use Rattle.hp_linear.proofs.Fields.{one_times, zero_plus}

@@ -1,16 +1,14 @@
 -- One of the literals of an atom is true exactly where the atom is as its side asks.
-use Rattle.std.proofs.Common.{◌≡◌, ◌↔◌, ◌⊎◌, ℕ, Bool, true, false, not, List, [], ◌∷◌, Ok, map, refl, sym, ap, subst, ◌∙◌, inl, inr}
+use Rattle.std.proofs.Common.{◌≡◌, ◌↔◌, ◌⊎◌, Bool, true, false, not, List, [], ◌∷◌, Ok, map, refl, sym, ap, subst, ◌∙◌, inl, inr}
 use Rattle.hp_math.specs.Rational.{ℚ, ◌≤ℚ◌, ◌<ℚ◌, le_ℚ, lt_ℚ, eq_ℚ}
 use Rattle.hp_math.proofs.Field.{≤ℚ_refl, ≤ℚ_antisym, <ℚ_irrefl, le_ℚ-true, lt_ℚ-true, lt_ℚ-false}
-use Rattle.hp_ast.specs.declared.problem.Atom.{Atom}
 use Rattle.hp_ast.specs.declared.problem.Cmp.{Cmp}
 use Rattle.hp_ast.specs.declared.problem.Cmp.TheVariants.{Le, Lt, Eq, Ne, Ge, Gt}
 use Rattle.hp_base.specs.declared.literal.Rel.{Rel}
 use Rattle.hp_base.specs.declared.literal.Rel.TheVariants as rel
 use Rattle.hp_base.specs.declared.literal.Lit.{Lit}
-use Rattle.hp_base.specs.Truth.{Values, Compares, IsTrueAt, LineIsTrue}
-use Rattle.hp_model.specs.declared.structure.ConstValue.{ConstValue}
-use Rattle.hp_model.specs.Value.{Functions, atom_is_true, compares, constant, value}
+use Rattle.hp_base.specs.Truth.{Values, Compares, LineIsTrue}
+use Rattle.hp_model.specs.Value.{compares}
 use Rattle.hp_norm.proofs.Numbers.{le_ℚ-from, lt_ℚ-from, eq_ℚ-from, eq_ℚ-true}
 use Rattle.hp_norm.proofs.Texts.{is_false, not_both}
 use Rattle.hp_norm.proofs.Truth.{compares-negated}
@@ -19,7 +17,7 @@ use Rattle.hp_linear.specs.declared.atoms.Side.TheVariants.{Guard, Head}
 use Rattle.hp_linear.specs.declared.form.Form.{Form}
 use Rattle.hp_linear.specs.Steps.{◌>>=◌}
 use Rattle.hp_linear.specs.Forms.{lin_of}
-use Rattle.hp_linear.specs.Literals.{apart_literals, compared, literals, num_literals, one_literal, taken}
+use Rattle.hp_linear.specs.Literals.{apart_literals, compared, literals, one_literal, taken}
 use Rattle.hp_linear.specs.Values.{asked, entry_name, entry_value, form_value}
 use Rattle.hp_linear.specs.Laws.{LiteralsAreTrueWithAtoms}
 use Rattle.hp_linear.proofs.Compare.{and_then}

@@ -1,5 +1,5 @@
 -- What the operations on forms do to the value of a form.
-use Rattle.std.proofs.Common.{◌≡◌, ℕ, ◌+◌, ◌<◌, ◌≤◌, Bool, true, false, cond, nat_lt, pos, unsigned_abs, List, [], ◌∷◌, ◌++◌, map, Result, Ok, Err, IfOk, refl, sym, ap, subst, ◌∙◌, arith}
+use Rattle.std.proofs.Common.{◌≡◌, Bool, true, false, cond, nat_lt, pos, unsigned_abs, List, [], ◌∷◌, ◌++◌, map, Ok, refl, sym, ap, ◌∙◌, arith}
 use Rattle.std.proofs.lemmas.Bool.{ltb-false}
 use Rattle.hp_math.specs.Rational.{ℚ, whole, ◌+ℚ◌, ◌-ℚ◌, ◌*ℚ◌, neg_ℚ, eq_ℚ}
 use Rattle.hp_math.proofs.Field.{+ℚ_zero, +ℚ_assoc, *ℚ-+ℚ}
@@ -14,7 +14,7 @@ use Rattle.hp_linear.specs.Steps.{Refusable, ◌>>=◌, behind, gcd}
 use Rattle.hp_linear.specs.Forms.{copies, form_with, minus_form, neg_form, neg_summand, plus_form, plus_summands, product_of, sum_of, times_form, times_summands, unless_zero}
 use Rattle.hp_linear.specs.Values.{form_value, summands_value}
 use Rattle.hp_linear.proofs.Divisors.{gcd-is}
-use Rattle.hp_linear.proofs.Refusals.{Came, came, ok_same, unless_wide_exact}
+use Rattle.hp_linear.proofs.Refusals.{came, ok_same, unless_wide_exact}
 use Rattle.hp_linear.proofs.Fields.{factor_out, four, neg_sum, neg_times, neg_zero, sum_times, swap_first, times_zero, zero_plus, zero_times}
 
 -- ---- fractions

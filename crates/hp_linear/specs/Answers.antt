@@ -1,5 +1,5 @@
 -- What the calls answer.
-use Rattle.std.specs.Prelude.{◌≡◌, ℕ, List, ◌∷◌, ◌++◌, Ok, Err, Result, length}
+use Rattle.std.specs.Prelude.{◌≡◌, ℕ, List, ◌∷◌, ◌++◌, Ok, Err}
 use Rattle.std.specs.List.{All}
 use Rattle.hp_base.specs.declared.literal.Lit.{Lit}
 use Rattle.hp_linear.specs.declared.form.Refusal.{Refusal}

@@ -8,7 +8,6 @@ use Rattle.hp_base.specs.declared.literal.Name.{Name}
 use Rattle.hp_norm.specs.Numbered.{number}
 use Rattle.hp_linear.specs.declared.form.Summand.{Summand}
 use Rattle.hp_linear.specs.declared.form.Form.{Form}
-use Rattle.hp_linear.specs.declared.form.Refusal.{Refusal}
 use Rattle.hp_linear.specs.declared.form.Refusal.TheVariants.{Other}
 use Rattle.hp_linear.specs.Steps.{Refusable, ◌>>=◌, behind, unless_wide, gcd}
 

@@ -1,5 +1,6 @@
--- What ties forms to the values of terms, and literals to the truth of atoms.
+-- What ties forms to the values of terms, and literals to the truth of atoms; and what the common divisor is.
 use Rattle.std.specs.Prelude.{◌≡◌, ℕ, List, map, true, Ok, ◌↔◌}
+use Rattle.std.specs.Int.{IsGcd}
 use Rattle.hp_ast.specs.declared.term.Term.{Term}
 use Rattle.hp_ast.specs.declared.problem.Atom.{Atom}
 use Rattle.hp_base.specs.declared.literal.Lit.{Lit}
@@ -8,6 +9,7 @@ use Rattle.hp_model.specs.declared.structure.ConstValue.{ConstValue}
 use Rattle.hp_model.specs.Value.{Functions, constant, value, atom_is_true}
 use Rattle.hp_linear.specs.declared.form.Form.{Form}
 use Rattle.hp_linear.specs.declared.atoms.Side.{Side}
+use Rattle.hp_linear.specs.Steps.{gcd}
 use Rattle.hp_linear.specs.Forms.{lin_of}
 use Rattle.hp_linear.specs.Literals.{num_literals}
 use Rattle.hp_linear.specs.Values.{asked, entry_name, entry_value, form_value}
@@ -23,3 +25,7 @@ abbrev pub LiteralsAreTrueWithAtoms : Type 0
 LiteralsAreTrueWithAtoms = (consts : List ConstValue) (functions : Functions) (side : Side) (atom : Atom) (lits : List Lit)
     → num_literals (map entry_name consts) side atom ≡ Ok lits
     → LineIsTrue (map entry_value consts) lits ↔ (asked side (atom_is_true (constant consts) functions atom) ≡ true)
+
+-- every common divisor of two numbers divides the one that is found, which is itself one
+abbrev pub DivisorsAreGreatest : Type 0
+DivisorsAreGreatest = (a b : ℕ) → IsGcd a b (gcd a b)

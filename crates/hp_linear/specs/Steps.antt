@@ -1,4 +1,4 @@
--- Computations that are refused at their first number that is too wide, and the greatest common divisor.
+-- Computations that may be refused, step by step, and the greatest common divisor.
 use Rattle.std.specs.Prelude.{ℕ, zero, suc, ◌%◌, ◌==◌, List, ◌++◌, Result, Ok, Err, if◌then◌else◌}
 use Rattle.hp_num.specs.declared.wide.Wide.{Wide as TooWide}
 use Rattle.hp_linear.specs.declared.form.Refusal.{Refusal}

@@ -1,5 +1,5 @@
 -- A linear form over whole numbers without a common divisor, in proportion to one over fractions.
-use Rattle.std.specs.Prelude.{ℕ, ◌<◌, ◌*◌, ◌/◌, ◌^◌, ◌==◌, List, [], ◌∷◌, ◌++◌, map, ℤ, pos, int_div, Ok, Err, unsigned_abs, if◌then◌else◌, nat_lt}
+use Rattle.std.specs.Prelude.{ℕ, ◌<◌, ◌*◌, ◌/◌, ◌^◌, ◌==◌, List, [], ◌∷◌, map, ℤ, pos, int_div, Ok, Err, unsigned_abs, if◌then◌else◌, nat_lt}
 use Rattle.std.specs.List.{All}
 use Rattle.hp_math.specs.Rational.{ℚ}
 use Rattle.hp_num.specs.Wide.{times_of}

@@ -37,7 +37,13 @@ pub enum Step {
 ///
 /// A literal's parts are in the order of names, without a common divisor of all its numbers. At `Other` and `Wide`
 /// nothing is added; at `Memory` the first of two literals may be there.
-pub fn literals(alloc: Global, index: &NameIndex, side: Side, atom: &Atom, lits: &mut List<Lit>) -> Step
+pub fn literals(
+    alloc: Global,
+    index: &NameIndex,
+    side: Side,
+    atom: &Atom,
+    lits: &mut List<Lit>,
+) -> Step
     requires { length index.now ≤ 4000 }
     ensures { Pushed (length index.now) (num_literals index.now side atom.now) lits.old lits.new result }
 {

@@ -93,7 +93,11 @@ pub fn merged(alloc: Global, left: &[Summand], right: &[Summand]) -> Result<List
 }
 
 /// So many copies of each summand, without those that become 0.
-pub fn multiplied(alloc: Global, number: Frac, summands: &[Summand]) -> Result<List<Summand>, Refusal>
+pub fn multiplied(
+    alloc: Global,
+    number: Frac,
+    summands: &[Summand],
+) -> Result<List<Summand>, Refusal>
     ensures { Answers (times_summands number summands.now) result }
 {
     let mut all = List::new(alloc);

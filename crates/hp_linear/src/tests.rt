@@ -29,7 +29,7 @@ struct Ratio {
 
 /// The term `c * C + d * D - less`; a coefficient 1/1 is left out, and so is a summand 0/1.
 #[derive(Clone, Copy)]
-struct Sum {
+struct Linear {
     c: Ratio,
     d: Ratio,
     less: Ratio,
@@ -37,7 +37,7 @@ struct Sum {
 
 /// A literal: so many copies of `C` and of `D` in the relation to the bound.
 #[derive(Clone, Copy)]
-struct Want {
+struct Wanted {
     c: i128,
     d: i128,
     rel: Rel,
@@ -64,7 +64,7 @@ fn copies(alloc: Global, coef: Ratio, letter: u8) -> Result<Term, AllocError> {
     Ok(Term::Scale(frac(coef), Boxed::new(alloc, name)?))
 }
 
-fn with_d(alloc: Global, sum: Sum) -> Result<Term, AllocError> {
+fn with_d(alloc: Global, sum: Linear) -> Result<Term, AllocError> {
     let first = copies(alloc, sum.c, b'C')?;
     if sum.d.num == 0 {
         return Ok(first);
@@ -73,13 +73,10 @@ fn with_d(alloc: Global, sum: Sum) -> Result<Term, AllocError> {
     if sum.c.num == 0 {
         return Ok(second);
     }
-    Ok(Term::Add(
-        Boxed::new(alloc, first)?,
-        Boxed::new(alloc, second)?,
-    ))
+    Ok(Term::Add(Boxed::new(alloc, first)?, Boxed::new(alloc, second)?))
 }
 
-fn term(alloc: Global, sum: Sum) -> Result<Term, AllocError> {
+fn term(alloc: Global, sum: Linear) -> Result<Term, AllocError> {
     let first = with_d(alloc, sum)?;
     if sum.less.num == 0 {
         return Ok(first);
@@ -104,7 +101,7 @@ fn is_part(parts: &[Part], at: usize, name: u32, coef: i128) -> bool {
     at < parts.len() && parts[at].name.0 == name && parts[at].coef == coef
 }
 
-fn are_parts(parts: &[Part], want: &Want) -> bool {
+fn are_parts(parts: &[Part], want: &Wanted) -> bool {
     let before = if want.c == 0 { 0 } else { 1 };
     let count = if want.d == 0 { before } else { before + 1 };
     parts.len() == count
@@ -112,7 +109,7 @@ fn are_parts(parts: &[Part], want: &Want) -> bool {
         && (want.d == 0 || is_part(parts, before, 1, want.d))
 }
 
-fn is_wanted(lit: &Lit, want: &Want) -> bool {
+fn is_wanted(lit: &Lit, want: &Wanted) -> bool {
     match lit {
         Lit::Num(l) => {
             l.rel == want.rel && l.bound == want.bound && are_parts(l.parts.as_slice(), want)
@@ -121,7 +118,7 @@ fn is_wanted(lit: &Lit, want: &Want) -> bool {
     }
 }
 
-fn are_wanted(lits: &[Lit], want: &[Want]) -> bool {
+fn are_wanted(lits: &[Lit], want: &[Wanted]) -> bool {
     if lits.len() != want.len() {
         return false;
     }
@@ -133,7 +130,7 @@ fn are_wanted(lits: &[Lit], want: &[Want]) -> bool {
     true
 }
 
-fn answered(alloc: Global, side: Side, atom: &Atom, want: &[Want]) -> Result<Answer, AllocError> {
+fn answered(alloc: Global, side: Side, atom: &Atom, want: &[Wanted]) -> Result<Answer, AllocError> {
     let index = index(alloc)?;
     let mut lits = List::new(alloc);
     Ok(match literals(alloc, &index, side, atom, &mut lits) {
@@ -153,10 +150,10 @@ fn answered(alloc: Global, side: Side, atom: &Atom, want: &[Want]) -> Result<Ans
 fn seen(
     alloc: Global,
     side: Side,
-    left: Sum,
+    left: Linear,
     cmp: Cmp,
-    right: Sum,
-    want: &[Want],
+    right: Linear,
+    want: &[Wanted],
 ) -> Result<Answer, AllocError> {
     let atom = Atom {
         left: term(alloc, left)?,
@@ -174,12 +171,12 @@ fn whole(num: i64) -> Ratio {
     Ratio { num, den: 1 }
 }
 
-fn sum(c: Ratio, d: Ratio, less: Ratio) -> Sum {
-    Sum { c, d, less }
+fn sum(c: Ratio, d: Ratio, less: Ratio) -> Linear {
+    Linear { c, d, less }
 }
 
-fn want(c: i128, d: i128, rel: Rel, bound: i128) -> Want {
-    Want { c, d, rel, bound }
+fn want(c: i128, d: i128, rel: Rel, bound: i128) -> Wanted {
+    Wanted { c, d, rel, bound }
 }
 
 #[test]
@@ -205,7 +202,14 @@ fn sums_against_nothing(rt: HostRuntime) {
     ];
     for (left, cmp, wanted) in cases {
         assert_eq!(rt;
-            seen(rt.alloc(), Side::Head, left, cmp, sum(NONE, NONE, NONE), &[wanted]),
+            seen(
+                rt.alloc(),
+                Side::Head,
+                left,
+                cmp,
+                sum(NONE, NONE, NONE),
+                &[wanted]
+            ),
             Ok(Answer::Same)
         );
     }
@@ -217,7 +221,7 @@ fn two_names_in_the_head(rt: HostRuntime) {
     let d = sum(NONE, ONE, NONE);
     let less = want(1, -1, Rel::Lt, 0);
     let more = want(-1, 1, Rel::Lt, 0);
-    let cases: [(Cmp, &[Want]); 6] = [
+    let cases: [(Cmp, &[Wanted]); 6] = [
         (Cmp::Le, &[want(1, -1, Rel::Le, 0)]),
         (Cmp::Lt, &[less]),
         (Cmp::Eq, &[want(1, -1, Rel::Eq, 0)]),
@@ -226,10 +230,16 @@ fn two_names_in_the_head(rt: HostRuntime) {
         (Cmp::Gt, &[more]),
     ];
     for (cmp, wanted) in cases {
-        assert_eq!(rt; seen(rt.alloc(), Side::Head, c, cmp, d, wanted), Ok(Answer::Same));
+        assert_eq!(rt;
+            seen(rt.alloc(), Side::Head, c, cmp, d, wanted),
+            Ok(Answer::Same)
+        );
     }
     let back = [want(-1, 1, Rel::Eq, 0)];
-    assert_eq!(rt; seen(rt.alloc(), Side::Head, d, Cmp::Eq, c, &back), Ok(Answer::Same));
+    assert_eq!(rt;
+        seen(rt.alloc(), Side::Head, d, Cmp::Eq, c, &back),
+        Ok(Answer::Same)
+    );
 }
 
 #[test]
@@ -238,7 +248,7 @@ fn two_names_in_the_guard(rt: HostRuntime) {
     let d = sum(NONE, ONE, NONE);
     let less = want(1, -1, Rel::Lt, 0);
     let more = want(-1, 1, Rel::Lt, 0);
-    let cases: [(Cmp, &[Want]); 6] = [
+    let cases: [(Cmp, &[Wanted]); 6] = [
         (Cmp::Le, &[more]),
         (Cmp::Lt, &[want(-1, 1, Rel::Le, 0)]),
         (Cmp::Eq, &[less, more]),
@@ -247,7 +257,10 @@ fn two_names_in_the_guard(rt: HostRuntime) {
         (Cmp::Gt, &[want(1, -1, Rel::Le, 0)]),
     ];
     for (cmp, wanted) in cases {
-        assert_eq!(rt; seen(rt.alloc(), Side::Guard, c, cmp, d, wanted), Ok(Answer::Same));
+        assert_eq!(rt;
+            seen(rt.alloc(), Side::Guard, c, cmp, d, wanted),
+            Ok(Answer::Same)
+        );
     }
 }
 
@@ -298,5 +311,8 @@ fn others(alloc: Global) -> Result<[Answer; 3], AllocError> {
 
 #[test]
 fn terms_of_other_kinds(rt: HostRuntime) {
-    assert_eq!(rt; others(rt.alloc()), Ok([Answer::Other, Answer::Other, Answer::Other]));
+    assert_eq!(rt;
+        others(rt.alloc()),
+        Ok([Answer::Other, Answer::Other, Answer::Other])
+    );
 }

@@ -112,10 +112,7 @@ fn row_divisor(row: &Row) -> u128
     ensures value { result ≡ row_divisor row.now }
     ensures narrow { result < 2 ^ 127 }
 {
-    gcd(
-        parts_divisor(row.parts.as_slice()),
-        magnitude(row.constant),
-    )
+    gcd(parts_divisor(row.parts.as_slice()), magnitude(row.constant))
 }
 
 /// The greatest common divisor of the coefficients of parts.
