@@ -1,0 +1,12 @@
+pub mod Divisors
+pub mod Refusals
+pub mod Merging
+pub mod Naming
+pub mod Fields
+pub mod Values
+pub mod Semantics
+pub mod Compare
+pub mod Rows
+pub mod Truth
+pub mod Normals
+pub mod NormalRows

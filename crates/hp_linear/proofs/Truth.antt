@@ -1,0 +1,113 @@
+-- One of the literals of an atom is true exactly where the atom is as its side asks.
+use Rattle.std.proofs.Common.{◌≡◌, ◌↔◌, ◌⊎◌, Bool, true, false, not, List, [], ◌∷◌, Ok, map, refl, sym, ap, subst, ◌∙◌, inl, inr}
+use Rattle.hp_math.specs.Rational.{ℚ, ◌≤ℚ◌, ◌<ℚ◌, le_ℚ, lt_ℚ, eq_ℚ}
+use Rattle.hp_math.proofs.Field.{≤ℚ_refl, ≤ℚ_antisym, <ℚ_irrefl, le_ℚ-true, lt_ℚ-true, lt_ℚ-false}
+use Rattle.hp_ast.specs.declared.problem.Cmp.{Cmp}
+use Rattle.hp_ast.specs.declared.problem.Cmp.TheVariants.{Le, Lt, Eq, Ne, Ge, Gt}
+use Rattle.hp_base.specs.declared.literal.Rel.{Rel}
+use Rattle.hp_base.specs.declared.literal.Rel.TheVariants as rel
+use Rattle.hp_base.specs.declared.literal.Lit.{Lit}
+use Rattle.hp_base.specs.Truth.{Values, Compares, LineIsTrue}
+use Rattle.hp_model.specs.Value.{compares}
+use Rattle.hp_norm.proofs.Numbers.{le_ℚ-from, lt_ℚ-from, eq_ℚ-from, eq_ℚ-true}
+use Rattle.hp_norm.proofs.Texts.{is_false, not_both}
+use Rattle.hp_norm.proofs.Truth.{compares-negated}
+use Rattle.hp_linear.specs.declared.atoms.Side.{Side}
+use Rattle.hp_linear.specs.declared.atoms.Side.TheVariants.{Guard, Head}
+use Rattle.hp_linear.specs.declared.form.Form.{Form}
+use Rattle.hp_linear.specs.Steps.{◌>>=◌}
+use Rattle.hp_linear.specs.Forms.{lin_of}
+use Rattle.hp_linear.specs.Literals.{apart_literals, compared, literals, one_literal, taken}
+use Rattle.hp_linear.specs.Values.{asked, entry_name, entry_value, form_value}
+use Rattle.hp_linear.specs.Laws.{LiteralsAreTrueWithAtoms}
+use Rattle.hp_linear.proofs.Compare.{and_then}
+use Rattle.hp_linear.proofs.Refusals.{came, ok_same}
+use Rattle.hp_linear.proofs.Rows.{compared_true}
+use Rattle.hp_linear.proofs.Semantics.{terms_have_form_values}
+
+-- ---- the tests of an atom
+le_test : (a b : ℚ) → Compares rel.Le a b ↔ (le_ℚ a b ≡ true)
+le_test a b = (le_ℚ-from a b, le_ℚ-true a b)
+
+lt_test : (a b : ℚ) → Compares rel.Lt a b ↔ (lt_ℚ a b ≡ true)
+lt_test a b = (lt_ℚ-from a b, lt_ℚ-true a b)
+
+eq_test : (a b : ℚ) → Compares rel.Eq a b ↔ (eq_ℚ a b ≡ true)
+eq_test a b = (eq_ℚ-from a b, eq_ℚ-true a b)
+
+-- ---- numbers that differ
+not_true : (x : Bool) → not x ≡ true → x ≡ false
+not_true true e = absurd (cc)
+not_true false e = refl
+
+one_less : (a b : ℚ) → eq_ℚ a b ≡ false → (a <ℚ b) ⊎ (b <ℚ a)
+one_less a b e = by (lt_ℚ a b) (lt_ℚ b a) refl refl
+  where
+    by : (x y : Bool) → lt_ℚ a b ≡ x → lt_ℚ b a ≡ y → (a <ℚ b) ⊎ (b <ℚ a)
+    by true y s t = inl (lt_ℚ-true a b s)
+    by false true s t = inr (lt_ℚ-true b a t)
+    by false false s t = absurd (not_both (eq_ℚ a b) e (eq_ℚ-from a b (≤ℚ_antisym a b (lt_ℚ-false b a t) (lt_ℚ-false a b s))))
+
+less_differs : (a b : ℚ) → a <ℚ b → not (eq_ℚ a b) ≡ true
+less_differs a b h = ap not (is_false (eq_ℚ a b) (λ t. <ℚ_irrefl a b h (subst (λ x. b ≤ℚ x) (sym (eq_ℚ-true a b t)) (≤ℚ_refl b))))
+
+more_differs : (a b : ℚ) → b <ℚ a → not (eq_ℚ a b) ≡ true
+more_differs a b h = ap not (is_false (eq_ℚ a b) (λ t. <ℚ_irrefl b a h (subst (λ x. x ≤ℚ b) (sym (eq_ℚ-true a b t)) (≤ℚ_refl b))))
+
+module _ (v : Values) where
+  -- ---- one literal, and two
+  abbrev Says : List Lit → Bool → Type 0
+  Says lits test = LineIsTrue v lits ↔ (test ≡ true)
+
+  one_says : (r : Rel) (l m : Form) (test : Bool) (lits : List Lit) → Compares r (form_value v l) (form_value v m) ↔ (test ≡ true) → one_literal r l m ≡ Ok lits → Says lits test
+  one_says r l m test lits is e =
+      let one = came (compared r l m) (λ x. Ok (x ∷ [])) lits e in
+      let both = and_then (compared_true v r l m one.value one.first) is in
+      subst (λ (xs : List Lit). Says xs test) (ok_same (one.value ∷ []) lits one.rest) (λ h. only h both.0, λ t. inl (both.1 t))
+    where
+      only : {A B : Type 0} → A ⊎ ⊥ → (A → B) → B
+      only (inl a) f = f a
+      only (inr a) f = absurd a
+
+  apart_says : (l m : Form) (lits : List Lit) → apart_literals l m ≡ Ok lits → Says lits (not (eq_ℚ (form_value v l) (form_value v m)))
+  apart_says l m lits e =
+      let a = form_value v l in
+      let b = form_value v m in
+      let one = came (compared rel.Lt l m) (λ x. compared rel.Lt m l >>= λ y. Ok (x ∷ y ∷ [])) lits e in
+      let two = came (compared rel.Lt m l) (λ y. Ok (one.value ∷ y ∷ [])) lits one.rest in
+      let less = compared_true v rel.Lt l m one.value one.first in
+      let more = compared_true v rel.Lt m l two.value two.first in
+      subst (λ (xs : List Lit). Says xs (not (eq_ℚ a b))) (ok_same (one.value ∷ two.value ∷ []) lits two.rest)
+      (λ h. differs a b less.0 more.0 h, λ t. either less.1 more.1 (one_less a b (not_true (eq_ℚ a b) t)))
+    where
+      differs : (a b : ℚ) {A B : Type 0} → (A → a <ℚ b) → (B → b <ℚ a) → A ⊎ (B ⊎ ⊥) → not (eq_ℚ a b) ≡ true
+      differs a b f g (inl h) = less_differs a b (f h)
+      differs a b f g (inr (inl h)) = more_differs a b (g h)
+      differs a b f g (inr (inr h)) = absurd h
+
+      either : {A B C D : Type 0} → (A → C) → (B → D) → A ⊎ B → C ⊎ (D ⊎ ⊥)
+      either f g (inl h) = inl (f h)
+      either f g (inr h) = inr (inl (g h))
+
+  literals_say : (cmp : Cmp) (l m : Form) (lits : List Lit) → literals cmp l m ≡ Ok lits → Says lits (compares cmp (form_value v l) (form_value v m))
+  literals_say Le l m lits e = one_says rel.Le l m (le_ℚ (form_value v l) (form_value v m)) lits (le_test (form_value v l) (form_value v m)) e
+  literals_say Lt l m lits e = one_says rel.Lt l m (lt_ℚ (form_value v l) (form_value v m)) lits (lt_test (form_value v l) (form_value v m)) e
+  literals_say Eq l m lits e = one_says rel.Eq l m (eq_ℚ (form_value v l) (form_value v m)) lits (eq_test (form_value v l) (form_value v m)) e
+  literals_say Ne l m lits e = apart_says l m lits e
+  literals_say Ge l m lits e = one_says rel.Le m l (le_ℚ (form_value v m) (form_value v l)) lits (le_test (form_value v m) (form_value v l)) e
+  literals_say Gt l m lits e = one_says rel.Lt m l (lt_ℚ (form_value v m) (form_value v l)) lits (lt_test (form_value v m) (form_value v l)) e
+
+taken_asks : (side : Side) (cmp : Cmp) (a b : ℚ) → compares (taken side cmp) a b ≡ asked side (compares cmp a b)
+taken_asks Guard cmp a b = compares-negated cmp a b
+taken_asks Head cmp a b = refl
+
+pub literals_are_true_with_atoms : LiteralsAreTrueWithAtoms
+literals_are_true_with_atoms es functions side atom lits e =
+    let names = map entry_name es in
+    let v = map entry_value es in
+    let one = came (lin_of names atom.left) (λ l. lin_of names atom.right >>= λ r. literals (taken side atom.cmp) l r) lits e in
+    let two = came (lin_of names atom.right) (λ r. literals (taken side atom.cmp) one.value r) lits one.rest in
+    let left = terms_have_form_values es functions atom.left one.value one.first in
+    let right = terms_have_form_values es functions atom.right two.value two.first in
+    let truth = taken_asks side atom.cmp (form_value v one.value) (form_value v two.value) ∙ (λ i. asked side (compares atom.cmp (sym left i) (sym right i))) in
+    subst (λ (b : Bool). LineIsTrue v lits ↔ (b ≡ true)) truth (literals_say v (taken side atom.cmp) one.value two.value lits two.rest)

@@ -1,0 +1,88 @@
+-- Linear forms: fractions of copies of constants, in the order of the constants, and a fraction; and the form of a term.
+use Rattle.std.specs.Prelude.{ℕ, List, [], ◌∷◌, map, Option, Some, None, Ok, Err, unsigned_abs, pos, if◌then◌else◌, nat_lt}
+use Rattle.hp_math.specs.Rational.{ℚ, whole, neg_ℚ, eq_ℚ}
+use Rattle.hp_num.specs.Wide.{add_over, mul_over}
+use Rattle.hp_ast.specs.declared.term.Term.{Term, fold-Term}
+use Rattle.hp_ast.specs.declared.term.Term.TheOpen.{Term-F}
+use Rattle.hp_base.specs.declared.literal.Name.{Name}
+use Rattle.hp_norm.specs.Numbered.{number}
+use Rattle.hp_linear.specs.declared.form.Summand.{Summand}
+use Rattle.hp_linear.specs.declared.form.Form.{Form}
+use Rattle.hp_linear.specs.declared.form.Refusal.TheVariants.{Other}
+use Rattle.hp_linear.specs.Steps.{Refusable, ◌>>=◌, behind, unless_wide, gcd}
+
+-- ---- fractions
+abbrev pub sum_of : ℚ → ℚ → Refusable ℚ
+sum_of x y = unless_wide (add_over (gcd x.den y.den) x y)
+
+abbrev pub product_of : ℚ → ℚ → Refusable ℚ
+product_of x y = unless_wide (mul_over (gcd (unsigned_abs x.num) y.den) (gcd (unsigned_abs y.num) x.den) x y)
+
+-- ---- summands
+abbrev pub copies : Name → ℚ → Summand
+copies name coef = record { name = name; coef = coef }
+
+-- a summand is there only where its coefficient isn't 0
+abbrev pub unless_zero : Name → ℚ → List Summand
+unless_zero name coef = if eq_ℚ coef (whole (pos 0)) then [] else copies name coef ∷ []
+
+-- the coefficients of each name added, where the names rise in both lists
+abbrev pub plus_summands : List Summand → List Summand → Refusable (List Summand)
+plus_summands [] ys = Ok ys
+plus_summands (x ∷ xs) [] = Ok (x ∷ xs)
+plus_summands (x ∷ xs) (y ∷ ys) =
+    if nat_lt x.name.0 y.name.0 then behind (x ∷ []) (plus_summands xs (y ∷ ys))
+    else if nat_lt y.name.0 x.name.0 then behind (y ∷ []) (plus_summands (x ∷ xs) ys)
+    else sum_of x.coef y.coef >>= λ coef. behind (unless_zero x.name coef) (plus_summands xs ys)
+
+abbrev pub times_summands : ℚ → List Summand → Refusable (List Summand)
+times_summands q [] = Ok []
+times_summands q (s ∷ ss) = product_of q s.coef >>= λ coef. behind (unless_zero s.name coef) (times_summands q ss)
+
+abbrev pub neg_summand : Summand → Summand
+neg_summand s = copies s.name (neg_ℚ s.coef)
+
+-- ---- forms
+abbrev pub form_with : List Summand → ℚ → Form
+form_with summands constant = record { summands = summands; constant = constant }
+
+abbrev pub number_form : ℚ → Form
+number_form q = form_with [] q
+
+-- a name that is none of the constants is no linear term
+abbrev pub named_form : Option Name → Refusable Form
+named_form None = Err Other
+named_form (Some name) = Ok (form_with (copies name (whole (pos 1)) ∷ []) (whole (pos 0)))
+
+abbrev pub plus_form : Form → Form → Refusable Form
+plus_form f g =
+    plus_summands f.summands g.summands >>= λ summands.
+    sum_of f.constant g.constant >>= λ constant.
+    Ok (form_with summands constant)
+
+abbrev pub neg_form : Form → Form
+neg_form f = form_with (map neg_summand f.summands) (neg_ℚ f.constant)
+
+-- the second form is negated and added
+abbrev pub minus_form : Form → Form → Refusable Form
+minus_form f g = plus_form f (neg_form g)
+
+abbrev pub times_form : ℚ → Form → Refusable Form
+times_form q f =
+    times_summands q f.summands >>= λ summands.
+    product_of q f.constant >>= λ constant.
+    Ok (form_with summands constant)
+
+-- ---- the form of a term over these constants, from inside out, the left operand first
+abbrev pub form_step : List (List ℕ) → Term-F (Refusable Form) → Refusable Form
+form_step names (Term-F.Number q) = Ok (number_form q)
+form_step names Term-F.Null = Err Other
+form_step names (Term-F.Name name) = named_form (number names name)
+form_step names (Term-F.Apply func args) = Err Other
+form_step names (Term-F.Add a b) = a >>= λ f. b >>= λ g. plus_form f g
+form_step names (Term-F.Sub a b) = a >>= λ f. b >>= λ g. minus_form f g
+form_step names (Term-F.Neg a) = a >>= λ f. Ok (neg_form f)
+form_step names (Term-F.Scale q a) = a >>= λ f. times_form q f
+
+abbrev pub lin_of : List (List ℕ) → Term → Refusable Form
+lin_of names = fold-Term (Refusable Form) (form_step names)

@@ -1,0 +1,19 @@
+//! What ties forms to the values of terms, and literals to the truth of atoms.
+
+ghost use Rattle.hp_linear.specs.Laws.{DivisorsAreGreatest, LiteralsAreTrueWithAtoms, TermsHaveFormValues};
+
+/// A num term has the value of its linear form at any values of the constants.
+pub fn terms_have_form_values()
+    ensures { TermsHaveFormValues }
+{}
+
+/// At any values of the constants, one of the literals of an atom is true exactly where the atom is true, in the head,
+/// or false, in the guard.
+pub fn literals_are_true_with_atoms()
+    ensures { LiteralsAreTrueWithAtoms }
+{}
+
+/// The divisor of two numbers that definitions speak of is their greatest common divisor.
+pub fn divisors_are_greatest()
+    ensures { DivisorsAreGreatest }
+{}

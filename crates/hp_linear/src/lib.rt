@@ -1,0 +1,18 @@
+//! The normal form of atoms over num constants, without functions and variables: terms become linear forms over
+//! fractions, and atoms become literals over whole numbers.
+//! What forms and literals say is tied to the values of terms and the truth of atoms by laws.
+#![tactic(auto)]
+
+mod atoms;
+mod collect;
+mod form;
+mod laws;
+mod numbers;
+mod summands;
+mod wholes;
+
+pub use atoms::{Side, Step, literals};
+pub use laws::{divisors_are_greatest, literals_are_true_with_atoms, terms_have_form_values};
+
+#[cfg(test)]
+mod tests;
