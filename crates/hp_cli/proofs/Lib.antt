@@ -4,3 +4,4 @@ pub mod Tells
 pub mod WordLists
 pub mod Decisions
 pub mod Settled
+pub mod Determined

@@ -23,7 +23,7 @@ first_byte ((b ∷ bs) ∷ words) = b
 other_bytes : ◌≡◌ {A = ℕ} 112 115 → ⊥
 other_bytes e = omega (arith, e)
 
-printing_solves : (words : List (List ℕ)) (most : ℕ) → words ≡ codes "print" ∷ [] → IsSolve words most → ⊥
+pub printing_solves : (words : List (List ℕ)) (most : ℕ) → words ≡ codes "print" ∷ [] → IsSolve words most → ⊥
 printing_solves words most e (inl s) = other_bytes (ap first_byte (sym e ∙ s.0))
 printing_solves words most e (inr s) = other_bytes (ap first_byte (sym e ∙ s.0))
 

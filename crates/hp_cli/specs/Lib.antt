@@ -3,3 +3,4 @@ pub mod Transfer
 pub mod Refusals
 pub mod Verdicts
 pub mod Answer
+pub mod Laws

@@ -3,6 +3,7 @@
 
 mod answer;
 mod deciding;
+mod laws;
 mod refusals;
 mod running;
 #[cfg(test)]
@@ -11,5 +12,6 @@ mod transfer;
 mod words;
 
 pub use answer::Status;
+pub use laws::one_answer;
 pub use running::run;
 pub use words::Task;

@@ -192,6 +192,19 @@ fn limits_are_told(rt: HostRuntime) -> Result<(), Fail> {
 }
 
 #[test]
+fn conflicts_are_shown(rt: HostRuntime) -> Result<(), Fail> {
+    let text = b"const i, j: idx; query i < j; query j < i;";
+    let (found, written) = answer(rt.alloc(), &["solve"], text)?;
+    assert_eq!(rt; found, 20);
+    let lines =
+        b"unsatisfiable\nline 1 clause 1: i - j <= -1\nline 2 clause 2: j - i <= -1\nsplit 1\nsplit 2\n";
+    assert!(rt; written.as_slice().starts_with(lines));
+    let leaf = &written[lines.len()..];
+    assert!(rt; leaf == b"leaf idx +1 +2\n".as_slice() || leaf == b"leaf idx +2 +1\n".as_slice());
+    Ok(())
+}
+
+#[test]
 fn relations_and_guards(rt: HostRuntime) -> Result<(), Fail> {
     // whether 2, 3 and 4 stand in the relation to 3
     let table: [(&str, [bool; 3]); 6] = [

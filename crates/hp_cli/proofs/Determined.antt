@@ -1,0 +1,219 @@
+-- The answers of an input exclude one another: each has a cause that the others lack.
+use Rattle.std.proofs.Common.{◌≡◌, inl, inr, ℕ, List, [], None, Some, ◌<◌, ◌≤◌, length, refl, sym, ap, subst, ◌∙◌, arith}
+use Rattle.std.specs.declared.option.Option.{Option}
+use Rattle.hp_ast.specs.Printing.{problem_text}
+use Rattle.hp_ast.specs.declared.problem.Problem.{Problem}
+use Rattle.hp_faults.proofs.Faults.{one_fault}
+use Rattle.hp_read.proofs.BytesLaws.{no_fault, one_problem}
+use Rattle.hp_sorts.specs.Faults.{sort_fault}
+use Rattle.hp_sorts.specs.Limits.{passed}
+use Rattle.hp_norm.specs.Ground.{IsIndexProblem}
+use Rattle.hp_cli.specs.declared.answer.Status.{Status}
+use Rattle.hp_cli.specs.declared.answer.Status.TheVariants.{Done, Usage, ReadFault, WriteFault, Spelling, Sort, Limit, Sat, Spent, Memory, NotBuilt, Unsat}
+use Rattle.hp_cli.specs.declared.words.Task.{Task}
+use Rattle.hp_cli.specs.declared.words.Task.TheVariants.{Solve, Print}
+use Rattle.hp_cli.specs.Answer.{Answers, Does, IsDone, Prints, Solves}
+use Rattle.hp_cli.specs.Laws.{IsDetermined, OneAnswer}
+use Rattle.hp_cli.specs.Refusals.{limit_text, sort_text, spelling_text, usage_text}
+use Rattle.hp_cli.specs.Verdicts.{InScope, IsCounted, IsNotBuilt, IsRead, IsSorted, Missorted, Misspelled, Printed, TooLong, TooMany, TooManyNames}
+use Rattle.hp_cli.specs.Words.{Asks, IsUsage}
+use Rattle.hp_cli.proofs.Settled.{printing_solves}
+
+some_same : {A : Type 0} (x y : A) → ◌≡◌ {A = Option A} (Some x) (Some y) → x ≡ y
+some_same x y e = cc
+
+-- ---- where printing and solving end
+data PrintEnds (bytes text : List ℕ) : Status → Type 0 where
+  misspelled : Misspelled bytes text → PrintEnds bytes text Spelling
+  long : TooLong bytes text → PrintEnds bytes text Limit
+  printed : Printed bytes text → PrintEnds bytes text Done
+
+data SolveEnds (bytes text : List ℕ) : Status → Type 0 where
+  misspelled : Misspelled bytes text → SolveEnds bytes text Spelling
+  long : TooLong bytes text → SolveEnds bytes text Limit
+  missorted : Missorted bytes text → SolveEnds bytes text Sort
+  many : TooMany bytes text → SolveEnds bytes text Limit
+  names : TooManyNames bytes text → SolveEnds bytes text Limit
+  form : IsNotBuilt bytes text → SolveEnds bytes text NotBuilt
+  verdict : (p : Problem) (s : Status) → InScope bytes p → (IsDetermined s → ⊥) → SolveEnds bytes text s
+
+print_ends : (bytes text : List ℕ) (s : Status) → Prints bytes text s → PrintEnds bytes text s
+print_ends bytes text Spelling h = misspelled h
+print_ends bytes text Limit h = long h
+print_ends bytes text Done h = printed h
+print_ends bytes text Usage h = absurd h
+print_ends bytes text ReadFault h = absurd h
+print_ends bytes text WriteFault h = absurd h
+print_ends bytes text Sort h = absurd h
+print_ends bytes text Sat h = absurd h
+print_ends bytes text Spent h = absurd h
+print_ends bytes text Memory h = absurd h
+print_ends bytes text NotBuilt h = absurd h
+print_ends bytes text Unsat h = absurd h
+
+solve_ends : (most : ℕ) (bytes text : List ℕ) (s : Status) → Solves most bytes text s → SolveEnds bytes text s
+solve_ends most bytes text Spelling h = misspelled h
+solve_ends most bytes text Sort h = missorted h
+solve_ends most bytes text Limit (inl h) = long h
+solve_ends most bytes text Limit (inr (inl h)) = many h
+solve_ends most bytes text Limit (inr (inr h)) = names h
+solve_ends most bytes text NotBuilt h = form h
+solve_ends most bytes text Sat h = verdict h.problem Sat h.scope (λ d. d)
+solve_ends most bytes text Unsat h = verdict h.problem Unsat h.scope (λ d. d)
+solve_ends most bytes text Spent h = verdict h.problem Spent h.scope (λ d. d)
+solve_ends most bytes text Done h = absurd h
+solve_ends most bytes text Usage h = absurd h
+solve_ends most bytes text ReadFault h = absurd h
+solve_ends most bytes text WriteFault h = absurd h
+solve_ends most bytes text Memory h = absurd h
+
+-- ---- causes that exclude one another, and causes that are one
+module _ (bytes text other : List ℕ) where
+  one_misspelling : Misspelled bytes text → Misspelled bytes other → text ≡ other
+  one_misspelling a b = a.written ∙ ap spelling_text (one_fault bytes a.fault b.fault a.cause b.cause a.known b.known) ∙ sym b.written
+
+  misspelled_or_read : (p : Problem) → Misspelled bytes text → IsRead bytes p → ⊥
+  misspelled_or_read p a r = a.known (no_fault bytes p a.fault r.spelled a.cause)
+
+  read_or_misspelled : (p : Problem) → IsRead bytes p → Misspelled bytes other → ⊥
+  read_or_misspelled p r b = b.known (no_fault bytes p b.fault r.spelled b.cause)
+
+  long_or_short : TooLong bytes text → length bytes ≤ 1048576 → ⊥
+  long_or_short a h = omega (arith, a.size, h)
+
+  short_or_long : length bytes ≤ 1048576 → TooLong bytes other → ⊥
+  short_or_long h b = omega (arith, b.size, h)
+
+  one_length : TooLong bytes text → TooLong bytes other → text ≡ other
+  one_length a b = a.written ∙ sym b.written
+
+  one_read : (p q : Problem) → IsRead bytes p → IsRead bytes q → p ≡ q
+  one_read p q r s = one_problem bytes p q r.spelled s.spelled
+
+  one_print : Printed bytes text → Printed bytes other → text ≡ other
+  one_print a b = a.written ∙ ap problem_text (one_read a.problem b.problem a.read b.read) ∙ sym b.written
+
+  one_sort : Missorted bytes text → Missorted bytes other → text ≡ other
+  one_sort a b =
+      let same = one_read a.problem b.problem a.read b.read in
+      a.written ∙ ap sort_text (some_same a.fault b.fault (sym a.cause ∙ ap sort_fault same ∙ b.cause)) ∙ sym b.written
+
+  missorted_or_sorted : (p : Problem) → Missorted bytes text → IsSorted bytes p → ⊥
+  missorted_or_sorted p a s = let same = one_read a.problem p a.read s.read in let e : Some a.fault ≡ None = sym a.cause ∙ ap sort_fault same ∙ s.sorted in cc
+
+  sorted_or_missorted : (p : Problem) → IsSorted bytes p → Missorted bytes other → ⊥
+  sorted_or_missorted p s b = let same = one_read p b.problem s.read b.read in let e : None ≡ Some b.fault = sym s.sorted ∙ ap sort_fault same ∙ b.cause in cc
+
+  one_count : TooMany bytes text → TooMany bytes other → text ≡ other
+  one_count a b =
+      let same = one_read a.problem b.problem a.sorted.read b.sorted.read in
+      a.written ∙ ap limit_text (some_same a.limit_of b.limit_of (sym a.cause ∙ ap passed same ∙ b.cause)) ∙ sym b.written
+
+  many_or_counted : (p : Problem) → TooMany bytes text → IsCounted bytes p → ⊥
+  many_or_counted p a s = let same = one_read a.problem p a.sorted.read s.sorted.read in let e : Some a.limit_of ≡ None = sym a.cause ∙ ap passed same ∙ s.counted in cc
+
+  counted_or_many : (p : Problem) → IsCounted bytes p → TooMany bytes other → ⊥
+  counted_or_many p s b = let same = one_read p b.problem s.sorted.read b.sorted.read in let e : None ≡ Some b.limit_of = sym s.counted ∙ ap passed same ∙ b.cause in cc
+
+  names_or_few : (p : Problem) → TooManyNames bytes text → InScope bytes p → ⊥
+  names_or_few p a s =
+      let same = one_read a.problem p a.counted.sorted.read s.counted.sorted.read in
+      omega (arith, subst (λ (q : Problem). 4000 < length q.decls) same a.size, s.scope.names)
+
+  index_or_other : (p q : Problem) → IsCounted bytes p → IsCounted bytes q → IsIndexProblem p → (IsIndexProblem q → ⊥) → ⊥
+  index_or_other p q c d is not_index = not_index (subst IsIndexProblem (one_read p q c.sorted.read d.sorted.read) is)
+
+  -- ---- one end
+  one_print_end : (s t : Status) → PrintEnds bytes text s → PrintEnds bytes other t → (s ≡ t) × (text ≡ other)
+  one_print_end _ _ (misspelled a) (misspelled b) = (refl, one_misspelling a b)
+  one_print_end _ _ (misspelled a) (long b) = absurd (short_or_long a.size b)
+  one_print_end _ _ (misspelled a) (printed b) = absurd (misspelled_or_read b.problem a b.read)
+  one_print_end _ _ (long a) (misspelled b) = absurd (long_or_short a b.size)
+  one_print_end _ _ (long a) (long b) = (refl, one_length a b)
+  one_print_end _ _ (long a) (printed b) = absurd (long_or_short a b.read.size)
+  one_print_end _ _ (printed a) (misspelled b) = absurd (read_or_misspelled a.problem a.read b)
+  one_print_end _ _ (printed a) (long b) = absurd (short_or_long a.read.size b)
+  one_print_end _ _ (printed a) (printed b) = (refl, one_print a b)
+
+  one_solve_end : (s t : Status) → SolveEnds bytes text s → SolveEnds bytes other t → IsDetermined s → (s ≡ t) × (text ≡ other)
+  one_solve_end _ _ (misspelled a) (misspelled b) d = (refl, one_misspelling a b)
+  one_solve_end _ _ (misspelled a) (long b) d = absurd (short_or_long a.size b)
+  one_solve_end _ _ (misspelled a) (missorted b) d = absurd (misspelled_or_read b.problem a b.read)
+  one_solve_end _ _ (misspelled a) (many b) d = absurd (misspelled_or_read b.problem a b.sorted.read)
+  one_solve_end _ _ (misspelled a) (names b) d = absurd (misspelled_or_read b.problem a b.counted.sorted.read)
+  one_solve_end _ _ (misspelled a) (form b) d = absurd (misspelled_or_read b.problem a b.counted.sorted.read)
+  one_solve_end _ _ (misspelled a) (verdict q t b n) d = absurd (misspelled_or_read q a b.counted.sorted.read)
+  one_solve_end _ _ (long a) (misspelled b) d = absurd (long_or_short a b.size)
+  one_solve_end _ _ (long a) (long b) d = (refl, one_length a b)
+  one_solve_end _ _ (long a) (missorted b) d = absurd (long_or_short a b.read.size)
+  one_solve_end _ _ (long a) (many b) d = absurd (long_or_short a b.sorted.read.size)
+  one_solve_end _ _ (long a) (names b) d = absurd (long_or_short a b.counted.sorted.read.size)
+  one_solve_end _ _ (long a) (form b) d = absurd (long_or_short a b.counted.sorted.read.size)
+  one_solve_end _ _ (long a) (verdict q t b n) d = absurd (long_or_short a b.counted.sorted.read.size)
+  one_solve_end _ _ (missorted a) (misspelled b) d = absurd (read_or_misspelled a.problem a.read b)
+  one_solve_end _ _ (missorted a) (long b) d = absurd (short_or_long a.read.size b)
+  one_solve_end _ _ (missorted a) (missorted b) d = (refl, one_sort a b)
+  one_solve_end _ _ (missorted a) (many b) d = absurd (missorted_or_sorted b.problem a b.sorted)
+  one_solve_end _ _ (missorted a) (names b) d = absurd (missorted_or_sorted b.problem a b.counted.sorted)
+  one_solve_end _ _ (missorted a) (form b) d = absurd (missorted_or_sorted b.problem a b.counted.sorted)
+  one_solve_end _ _ (missorted a) (verdict q t b n) d = absurd (missorted_or_sorted q a b.counted.sorted)
+  one_solve_end _ _ (many a) (misspelled b) d = absurd (read_or_misspelled a.problem a.sorted.read b)
+  one_solve_end _ _ (many a) (long b) d = absurd (short_or_long a.sorted.read.size b)
+  one_solve_end _ _ (many a) (missorted b) d = absurd (sorted_or_missorted a.problem a.sorted b)
+  one_solve_end _ _ (many a) (many b) d = (refl, one_count a b)
+  one_solve_end _ _ (many a) (names b) d = absurd (many_or_counted b.problem a b.counted)
+  one_solve_end _ _ (many a) (form b) d = absurd (many_or_counted b.problem a b.counted)
+  one_solve_end _ _ (many a) (verdict q t b n) d = absurd (many_or_counted q a b.counted)
+  one_solve_end _ _ (names a) (misspelled b) d = absurd (read_or_misspelled a.problem a.counted.sorted.read b)
+  one_solve_end _ _ (names a) (long b) d = absurd (short_or_long a.counted.sorted.read.size b)
+  one_solve_end _ _ (names a) (missorted b) d = absurd (sorted_or_missorted a.problem a.counted.sorted b)
+  one_solve_end _ _ (names a) (many b) d = absurd (counted_or_many a.problem a.counted b)
+  one_solve_end _ _ (names a) (names b) d = (refl, a.written ∙ sym b.written)
+  one_solve_end _ _ (names a) (form b) d = absurd (index_or_other a.problem b.problem a.counted b.counted a.index b.other)
+  one_solve_end _ _ (names a) (verdict q t b n) d = absurd (names_or_few q a b)
+  one_solve_end _ _ (form a) (misspelled b) d = absurd (read_or_misspelled a.problem a.counted.sorted.read b)
+  one_solve_end _ _ (form a) (long b) d = absurd (short_or_long a.counted.sorted.read.size b)
+  one_solve_end _ _ (form a) (missorted b) d = absurd (sorted_or_missorted a.problem a.counted.sorted b)
+  one_solve_end _ _ (form a) (many b) d = absurd (counted_or_many a.problem a.counted b)
+  one_solve_end _ _ (form a) (names b) d = absurd (index_or_other b.problem a.problem b.counted a.counted b.index a.other)
+  one_solve_end _ _ (form a) (form b) d = (refl, a.written ∙ sym b.written)
+  one_solve_end _ _ (form a) (verdict q t b n) d = absurd (index_or_other q a.problem b.counted a.counted b.scope.index a.other)
+  one_solve_end s t (verdict p _ a n) b d = absurd (n d)
+
+-- ---- words
+one_done : (words : List (List ℕ)) (bytes text other : List ℕ) (s t : Status) → IsDone words bytes text s → IsDone words bytes other t → IsDetermined s → (s ≡ t) × (text ≡ other)
+one_done words bytes text other s t a b d = by a.task b.task a.asked b.asked a.does b.does
+  where
+    by : (p q : Task) → Asks words p → Asks words q → Does p bytes text s → Does q bytes other t → (s ≡ t) × (text ≡ other)
+    by Print Print e f g h = one_print_end bytes text other s t (print_ends bytes text s g) (print_ends bytes other t h)
+    by Print (Solve n) e f g h = absurd (printing_solves words n e f.0)
+    by (Solve m) Print e f g h = absurd (printing_solves words m f e.0)
+    by (Solve m) (Solve n) e f g h = one_solve_end bytes text other s t (solve_ends m bytes text s g) (solve_ends n bytes other t h) d
+
+-- the words are no command, or what they ask for is done
+data AnswersBy (words : List (List ℕ)) (bytes text : List ℕ) : Status → Type 0 where
+  usage : IsUsage words → text ≡ usage_text → AnswersBy words bytes text Usage
+  done : (s : Status) → IsDone words bytes text s → AnswersBy words bytes text s
+
+answers_by : (words : List (List ℕ)) (bytes text : List ℕ) (s : Status) → Answers words bytes text s → AnswersBy words bytes text s
+answers_by words bytes text Usage h = usage h.0 h.1
+answers_by words bytes text Done h = done Done h
+answers_by words bytes text Spelling h = done Spelling h
+answers_by words bytes text Sort h = done Sort h
+answers_by words bytes text Limit h = done Limit h
+answers_by words bytes text Sat h = done Sat h
+answers_by words bytes text Unsat h = done Unsat h
+answers_by words bytes text Spent h = done Spent h
+answers_by words bytes text NotBuilt h = done NotBuilt h
+answers_by words bytes text ReadFault h = absurd h
+answers_by words bytes text WriteFault h = absurd h
+answers_by words bytes text Memory h = absurd h
+
+one_of : (words : List (List ℕ)) (bytes text other : List ℕ) (s t : Status) → AnswersBy words bytes text s → AnswersBy words bytes other t → IsDetermined s → (s ≡ t) × (text ≡ other)
+one_of words bytes text other _ _ (usage a e) (usage b f) d = (refl, e ∙ sym f)
+one_of words bytes text other _ _ (usage a e) (done t b) d = absurd (a b.task b.asked)
+one_of words bytes text other _ _ (done s a) (usage b f) d = absurd (b a.task a.asked)
+one_of words bytes text other _ _ (done s a) (done t b) d = one_done words bytes text other s t a b d
+
+pub one_answer : OneAnswer
+one_answer words bytes text other s t a b d = one_of words bytes text other s t (answers_by words bytes text s a) (answers_by words bytes other t b) d
