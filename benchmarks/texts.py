@@ -41,8 +41,37 @@ def one_machine(rng, jobs, spare):
     return lines
 
 
+MEGABYTE = 1_048_576
+
+
+def clauses():
+    """A megabyte of clauses with functions, guard and head."""
+    declarations = ["const c, d: num;", "fun f(num): num level 1;", "fun g(num): num level 1;"]
+    clause = "clause [x:num, y:num] x <= y & g(x) < 3/4 -> f(x) <= f(y + 1);"
+    room = MEGABYTE - sum(len(line) + 1 for line in declarations)
+    return declarations + [clause] * (room // (len(clause) + 1))
+
+
+def compared(rng, count, guards):
+    """Clauses of all orders between 500 constants, some of them with a guard, which one assignment makes true."""
+    values = [rng.randrange(10**9) for _ in range(500)]
+    lines = ["const " + ", ".join(f"c{i}" for i in range(500)) + ": idx;"]
+    for _ in range(count):
+        a, b = rng.sample(range(500), 2)
+        apart = values[b] - values[a]
+        sign = "+" if apart >= 0 else "-"
+        guard = rng.choice(["", "", f"c{a} != c{b} & c{b} > c{a} - {rng.randrange(10**10, 10**11)} -> "])
+        relation = rng.choice(["<=", ">=", "="])
+        lines.append(f"query {guard if guards else ''}c{b} {relation} c{a} {sign} {abs(apart)};")
+    return lines
+
+
 def main():
     rng = random.Random(7)
+    write("clauses.hp", clauses())
+    write("queries.hp", ["query 1<0;"] * (MEGABYTE // 11))
+    write("compared.hp", compared(random.Random(11), 2000, False))
+    write("guarded.hp", compared(random.Random(11), 2000, True))
     write("empty.hp", [])
     write("constants.hp", constants(4000))
     write("wide.hp", wide(rng))
