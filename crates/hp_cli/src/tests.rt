@@ -166,12 +166,14 @@ fn limits_are_told(rt: HostRuntime) -> Result<(), Fail> {
     for _at in 0..1_048_577 {
         blanks.push(b' ')?;
     }
-    let mut names = String::from_str(rt.alloc(), "const c")?;
+    let mut constants = b"const c".to_vec(rt.alloc())?;
     for at in 0..4_000 {
-        names = format!(in rt.alloc(); "{names}, c{at}")?;
+        let name = format!(in rt.alloc(); ", c{at}")?;
+        constants.extend_from_slice(name.as_bytes())?;
     }
-    let constants = format!(in rt.alloc(); "{names}: idx;")?;
-    let fractions = format!(in rt.alloc(); "{names}: num;")?;
+    let mut fractions = constants.clone()?;
+    constants.extend_from_slice(b": idx;")?;
+    fractions.extend_from_slice(b": num;")?;
     let mut queries = Vec::new(rt.alloc());
     for _at in 0..2_001 {
         queries.extend_from_slice(b"query false;")?;
@@ -179,8 +181,8 @@ fn limits_are_told(rt: HostRuntime) -> Result<(), Fail> {
     let table: [(&[u8], u8, &[u8]); 5] = [
         (blanks.as_slice(), 8, b"limit bytes 1048576\n"),
         (&blanks[1..], 10, b"satisfiable\nuniverse 1\n"),
-        (constants.as_bytes(), 8, b"limit names 4000\n"),
-        (fractions.as_bytes(), 13, b"not built\n"),
+        (constants.as_slice(), 8, b"limit names 4000\n"),
+        (fractions.as_slice(), 13, b"not built\n"),
         (queries.as_slice(), 8, b"limit clauses 2000\n"),
     ];
     for (text, status, wanted) in table {
