@@ -1,4 +1,3 @@
-pub mod Numbering
 pub mod Numbers
 pub mod Texts
 pub mod Shapes

@@ -8,9 +8,9 @@ ghost use Rattle.hp_norm.specs.Literals.{bound_of, cancel, compared, is_named, l
 ghost use Rattle.hp_norm.specs.Answers.{AtomPushed, AtomsPushed, Pushed, SidesPushed};
 
 use crate::collect::{Form, Shape, collect, small};
-use crate::names::NameIndex;
 use hp_ast::{Atom, Cmp};
 use hp_base::{IdxLit, Lit, Name, Rel};
+use hp_names::NameIndex;
 use hp_num::List;
 
 /// The part of a clause that an atom stands in. An atom of the guard stands for its negation.

@@ -6,9 +6,9 @@ ghost use Rattle.std.specs.Prelude.{◌≡◌, ◌<◌, ◌≤◌, ◌^◌, ◌+
 ghost use Rattle.hp_norm.specs.Numbered.{number};
 ghost use Rattle.hp_norm.specs.Forms.{IsSmall, IsSmallShape, minus_shape, named_shape, neg_shape, number_shape, plus_shape, shape_form, shape_of, shifted, weight};
 
-use crate::names::NameIndex;
 use hp_ast::Term;
 use hp_base::Name;
+use hp_names::NameIndex;
 use hp_num::Frac;
 
 /// The largest magnitude of a number that is collected.

@@ -5,9 +5,9 @@ ghost use Rattle.hp_norm.specs.Ground.{IsIndexDecl, decl_name};
 ghost use Rattle.hp_norm.specs.Answers.{AreNamesOf, GroundFound, IndexFound, LineFound, LinesFound, NamedAs};
 
 use crate::atoms::{Side, Step, push_atoms};
-use crate::names::NameIndex;
 use hp_ast::{Clause, Decl, Problem, Sort};
 use hp_base::{Ground, Line, Lit, Names, Origin};
+use hp_names::NameIndex;
 use hp_num::{List, Text};
 use std::alloc::{AllocError, Global};
 

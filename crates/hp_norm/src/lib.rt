@@ -6,11 +6,10 @@ mod atoms;
 mod collect;
 mod grounding;
 mod laws;
-mod names;
 
 pub use grounding::{GroundRead, ground};
+pub use hp_names::NameIndex;
 pub use laws::{structures_give_values, values_give_a_structure};
-pub use names::NameIndex;
 
 #[cfg(test)]
 mod tests;

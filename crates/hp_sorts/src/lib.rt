@@ -9,7 +9,6 @@ mod counting;
 mod declarations;
 mod fault;
 mod forms;
-mod names;
 mod naming;
 mod symbols;
 mod tables;

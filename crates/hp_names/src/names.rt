@@ -1,8 +1,8 @@
 //! Names in the order of their first occurrence, found again by a hash.
 
-ghost use Rattle.std.specs.Prelude.{◌≡◌, ◌<◌, [], IfOk, IfSome, OnErr, is_some, length, position};
+ghost use Rattle.std.specs.Prelude.{◌≡◌, ◌<◌, ◌++◌, [], ◌∷◌, false, IfOk, IfSome, OnErr, OnOk, is_some, length, position};
 ghost use Rattle.std.specs.Str.{bytes_eq};
-ghost use Rattle.hp_norm.specs.Numbered.{Added, is_among};
+ghost use Rattle.hp_names.specs.Names.{Added, is_among};
 
 use indexmap::IndexSet;
 use std::alloc::{AllocError, Global};
@@ -36,18 +36,26 @@ impl NameIndex {
     /// has changed.
     pub fn insert(&mut self, alloc: Global, name: &[u8]) -> Result<bool, AllocError>
         ensures added { IfOk result (λ added. Added self.old name.now self.new added) }
+        ensures fresh { is_among name.now self.old ≡ false → OnOk result (self.new ≡ self.old ++ name.now ∷ []) }
         ensures unchanged { OnErr result (self.new ≡ self.old) }
     {
         let owned = Vec::from_slice(alloc, name)?;
         Ok(self.set.insert(owned)?)
     }
 
-    /// The number of a name, or `None` where it is not there.
+    /// The number of a name, or `None` where it is not there. Takes no memory.
     pub fn position(&self, name: &[u8]) -> Option<usize>
         ensures position { result ≡ position (bytes_eq name.now) self.now }
         ensures found { is_some result ≡ is_among name.now self.now }
         ensures within { IfSome result (λ number. number < length self.now) }
     {
         self.set.get_index_of(name)
+    }
+
+    /// Whether the name is there. Takes no memory.
+    pub fn contains(&self, name: &[u8]) -> bool
+        ensures { result ≡ is_among name.now self.now }
+    {
+        self.set.get_index_of(name).is_some()
     }
 }

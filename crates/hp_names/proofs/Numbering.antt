@@ -4,7 +4,7 @@ use Rattle.std.specs.Prelude.{position}
 use Rattle.std.specs.List.{list_any, prefix_len}
 use Rattle.std.specs.Str.{bytes_eq}
 use Rattle.indexmap.specs.IndexSet.{insert_key}
-use Rattle.hp_norm.specs.Numbered.{is_among, Added}
+use Rattle.hp_names.specs.Names.{Added, is_among}
 
 pub list_any-map : {A B : Type 0} (p : B → Bool) (f : A → B) (xs : List A) → list_any p (map f xs) ≡ list_any (λ x. p (f x)) xs
 list_any-map p f [] = refl
@@ -36,3 +36,8 @@ module _ {V : Type 0} (f : V → List ℕ) (keys new : List V) (k : V) (b : Bool
         | true ↦ λ t e n. rw e (among ∙ t, ap (map f) n)
         | false ↦ λ t e n. rw e (among ∙ t, ap (map f) n ∙ map-append f keys (k ∷ []))
       ]) refl is inserted
+
+-- a name that was not there stands last
+pub added-fresh : (old : List (List ℕ)) (name : List ℕ) (new : List (List ℕ)) (b : Bool) → Added old name new b → is_among name old ≡ false → new ≡ old ++ name ∷ []
+added-fresh old name new true h e = h.1
+added-fresh old name new false h e = absurd (let there = h.0 in cc)

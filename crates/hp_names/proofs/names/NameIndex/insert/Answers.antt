@@ -1,7 +1,7 @@
 use Rattle.std.proofs.Common.{subst, List, ℕ, map}
-use Rattle.hp_norm.specs.Numbered.{Added}
-use Rattle.hp_norm.proofs.Numbering.{added-map}
-use Rattle.hp_norm.proofs.names.NameIndex.insert.Goals as goal
+use Rattle.hp_names.specs.Names.{Added}
+use Rattle.hp_names.proofs.Numbering.{added-fresh, added-map}
+use Rattle.hp_names.proofs.names.NameIndex.insert.Goals as goal
 
 pub returns-clause-added : goal.returns-clause-added
 returns-clause-added c =
@@ -12,3 +12,6 @@ returns-clause-added c =
     let added = added-map (λ name. name.items) keys c.insert.new.self.keys c.in_ok-owned.owned b e.added e.keys in
     let named = subst (λ (name : List ℕ). Added (map (λ name. name.items) keys) name new b) c.in_ok-owned.ensures.items added in
     subst (λ (old : List (List ℕ)). Added old c.args.name.now new b) c.self.view_is named
+
+pub returns-clause-fresh : goal.returns-clause-fresh
+returns-clause-fresh c = added-fresh c.args.self.now c.args.name.now (map (λ name. name.items) c.insert.new.self.keys) c.in_ok-insert.field-0 (returns-clause-added c)
