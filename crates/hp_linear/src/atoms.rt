@@ -35,8 +35,9 @@ pub enum Step {
 /// `l <= r`, in the guard `r < l`; for `l < r` the literals `l < r` and `r <= l`; `>=` and `>` exchange the sides; for
 /// `l = r` in the head `l = r`, in the guard `l < r` and then `r < l`; for `l != r` the other way round.
 ///
-/// A literal's parts are in the order of names, without a common divisor of all its numbers. At `Other` and `Wide`
-/// nothing is added; at `Memory` the first of two literals may be there.
+/// A literal's parts are in the order of names, without a common divisor of all its numbers. Of `Other` and `Wide` the
+/// answer is what is met first, left before right and inner before outer. At both nothing is added; at `Memory` the
+/// first of two literals may be there.
 pub fn literals(
     alloc: Global,
     index: &NameIndex,
