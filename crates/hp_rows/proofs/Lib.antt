@@ -1,0 +1,11 @@
+mod Dot
+mod Positive
+mod Lines
+mod Clearing
+mod Start
+mod Contradiction
+mod Number
+mod Point
+mod Moves
+mod Steps
+mod Sums

@@ -1,0 +1,10 @@
+pub mod Rows
+pub mod Laws
+pub mod Arithmetic
+pub mod Lines
+pub mod Points
+pub mod Strain
+pub mod Answers
+pub mod Descent
+pub mod Told
+pub mod Steps

@@ -1,0 +1,39 @@
+-- What a step of the descent comes to.
+use Rattle.std.specs.Prelude.{◌≡◌, ℕ, ◌<◌, Bool, false, nat_eq, List, [], ◌∷◌, reverse}
+use Rattle.hp_num.specs.declared.wide.Wide.{Wide}
+use Rattle.hp_rows.specs.declared.row.Row.{Row}
+use Rattle.hp_rows.specs.declared.answer.Place.{Place}
+use Rattle.hp_rows.specs.declared.descent.State.{State}
+use Rattle.hp_rows.specs.declared.descent.Step.{Step}
+use Rattle.hp_rows.specs.declared.descent.Step.TheVariants as step
+use Rattle.hp_rows.specs.Strain.{IsStrain}
+use Rattle.hp_rows.specs.Descent.{IsState, rank}
+use Rattle.hp_rows.specs.Answers.{IsRefuted}
+
+-- n stands first
+abbrev pub first_is : ℕ → List ℕ → Bool
+first_is n [] = false
+first_is n (e ∷ es) = nat_eq e n
+
+-- the state as the code keeps it, the last row of a chain at the end
+abbrev pub IsStateOf : List Row → ℕ → State → Type 0
+IsStateOf rows w s = IsState rows w (reverse s.chain) (reverse s.lines) (reverse s.found) s.point s.at
+
+-- a state again, and further on
+pub record HasRisen (rows : List Row) (w : ℕ) (old new : State) : Type 0 where
+  pub state : IsStateOf rows w new
+  pub rises : rank (reverse old.chain) old.at < rank (reverse new.chain) new.at
+
+-- a step goes on, or ends the descent with an answer
+abbrev pub StepTells : List Row → ℕ → State → State → Step → Type 0
+StepTells rows w old new step.On = HasRisen rows w old new
+StepTells rows w old new (step.Contradiction times) = IsRefuted rows w times
+StepTells rows w old new (step.Strain s) = IsStrain rows w s
+StepTells rows w old new step.Memory = Unit {0}
+
+-- this strain over this chain, or want of memory
+abbrev pub IsStrained : List ℕ → Place → Wide → Step → Type 0
+IsStrained chain at wide step.On = ⊥
+IsStrained chain at wide (step.Contradiction times) = ⊥
+IsStrained chain at wide (step.Strain s) = (s.chain ≡ chain) × (s.place ≡ at) × (s.wide ≡ wide)
+IsStrained chain at wide step.Memory = Unit {0}

@@ -1,0 +1,38 @@
+//! What the descent answers.
+
+use hp_num::{Frac, List, Whole, Wide};
+
+/// Where a number passes: as a chain is eliminated from the row of this number, counted from 0, as the point of a chain
+/// is computed, or as this row's left side is summed at the point of a chain.
+#[derive(Clone, Copy)]
+pub enum Place {
+    Line(usize),
+    Point,
+    Sum(usize),
+}
+
+/// The first number that passes 2^127 - 1 over this chain, which lists row numbers from 0 in the order of the chain, with
+/// the operation that made it.
+#[derive(Drop)]
+pub struct Strain {
+    pub chain: List<usize>,
+    pub place: Place,
+    pub wide: Wide,
+}
+
+/// The answer of the descent.
+#[derive(Drop)]
+pub enum Answer {
+    /// A point at which every row holds, one fraction for each column. It is the point of this chain, whose row numbers
+    /// fall and count from 0.
+    Point {
+        chain: List<usize>,
+        point: List<Frac>,
+    },
+    /// A multiplier for each row, none negative: the left sides add to nothing, and the bounds to less than 0.
+    Contradiction(List<Whole>),
+    /// A number on the way passes 2^127 - 1.
+    Strain(Strain),
+    /// Memory was wanting.
+    Memory,
+}

@@ -1,0 +1,225 @@
+//! Dimension descent: the chain is a stack of rows that are taken as equations, and the rows are tested at its point.
+//!
+//! A row that the point breaks is put on the chain, and the rows are taken anew at the new point; where the last row of
+//! the chain comes up itself, it holds as an equation and is taken off. The descent ends with a point at which every row
+//! was tested, or with a reduced row that has no coefficients, whose multipliers contradict the rows.
+
+ghost use Rattle.std.specs.Prelude.{◌≡◌, ◌<◌, ◌+◌, ◌∷◌, ◌++◌, length, reverse, drop, IfOk, false};
+ghost use Rattle.hp_rows.specs.Rows.{AreWide, Breaks, row_at};
+ghost use Rattle.hp_rows.specs.Lines.{line_of, marks};
+ghost use Rattle.hp_rows.specs.Points.{at_point};
+ghost use Rattle.hp_rows.specs.Told.{TestTells};
+ghost use Rattle.hp_rows.specs.Answers.{Answers};
+ghost use Rattle.hp_rows.specs.Steps.{IsStrained, IsStateOf, StepTells, first_is};
+
+use crate::answer::{Answer, Place, Strain};
+use crate::coordinates::{left_side, point_of};
+use crate::fractions::is_over;
+use crate::line::{Fail, pivot, reduce};
+use crate::row::Row;
+use hp_num::{Frac, List, Whole, Wide};
+use std::alloc::{AllocError, Global};
+
+/// A chain with the reduced line of each of its rows, and the point of the chain `found`, which meets the rows of the
+/// chain as equations. The rows below `at` hold at the point.
+#[derive(Drop)]
+pub struct State {
+    chain: List<usize>,
+    lines: List<List<Whole>>,
+    found: List<usize>,
+    point: List<Frac>,
+    at: usize,
+}
+
+/// What a step of the descent came to.
+#[derive(Drop)]
+pub enum Step {
+    On,
+    Contradiction(List<Whole>),
+    Strain(Strain),
+    Memory,
+}
+
+/// Decides the rows over the fractions, each with `width` coefficients: a point, a contradiction, a strain, or want of
+/// memory. The time may be exponential in the number of rows.
+pub fn descend(alloc: Global, width: usize, rows: &[Row]) -> Answer
+    requires { AreWide width rows.now }
+    ensures { Answers rows.now width result }
+{
+    let point = match point_of(alloc, width, &[]) {
+        Ok(point) => point,
+        Err(_) => return Answer::Memory,
+    };
+    let mut state = State {
+        chain: List::new(alloc),
+        lines: List::new(alloc),
+        found: List::new(alloc),
+        point,
+        at: 0,
+    };
+    while state.at < rows.len() {
+        match advance(alloc, width, rows, &mut state) {
+            Step::On => {}
+            Step::Contradiction(times) => return Answer::Contradiction(times),
+            Step::Strain(strain) => return Answer::Strain(strain),
+            Step::Memory => return Answer::Memory,
+        }
+    }
+    Answer::Point {
+        chain: state.found,
+        point: state.point,
+    }
+}
+
+/// One row more, or the last row off the chain, or a row put on it.
+fn advance(alloc: Global, width: usize, rows: &[Row], state: &mut State) -> Step
+    requires wide { AreWide width rows.now }
+    requires state { IsStateOf rows.now width state.now }
+    requires more { state.now.at < length rows.now }
+    ensures { StepTells rows.now width state.old state.new result }
+{
+    if is_last(state.chain.as_slice(), state.at) {
+        state.chain.pop();
+        state.lines.pop();
+        state.at += 1;
+        return Step::On;
+    }
+    match is_broken(&rows[state.at], state.point.as_slice()) {
+        Ok(false) => {
+            state.at += 1;
+            Step::On
+        }
+        Ok(true) => extend(alloc, width, rows, state),
+        Err(wide) => strained(alloc, state.found.as_slice(), Place::Sum(state.at), wide),
+    }
+}
+
+/// Puts the row that the point breaks on the chain, and moves to the point of that.
+fn extend(alloc: Global, width: usize, rows: &[Row], state: &mut State) -> Step
+    requires wide { AreWide width rows.now }
+    requires state { IsStateOf rows.now width state.now }
+    requires more { state.now.at < length rows.now }
+    requires other { first_is state.now.at (reverse state.now.chain) ≡ false }
+    requires broken { Breaks (row_at rows.now state.now.at) (at_point state.now.point) }
+    ensures { StepTells rows.now width state.old state.new result }
+{
+    let row = match line_of(alloc, rows, state.at) {
+        Ok(row) => row,
+        Err(_) => return Step::Memory,
+    };
+    let line = match reduce(alloc, state.lines.as_slice(), row) {
+        Ok(line) => line,
+        Err(Fail::Wide(wide)) => {
+            return strained(alloc, state.chain.as_slice(), Place::Line(state.at), wide);
+        }
+        Err(Fail::Memory) => return Step::Memory,
+    };
+    if pivot(line.as_slice()) >= width {
+        return match times_of(alloc, width, line.as_slice()) {
+            Ok(times) => Step::Contradiction(times),
+            Err(_) => Step::Memory,
+        };
+    }
+    if state.chain.push(state.at).is_err() {
+        return Step::Memory;
+    }
+    if state.lines.push(line).is_err() {
+        return Step::Memory;
+    }
+    let point = match point_of(alloc, width, state.lines.as_slice()) {
+        Ok(point) => point,
+        Err(Fail::Wide(wide)) => {
+            return strained(alloc, state.chain.as_slice(), Place::Point, wide);
+        }
+        Err(Fail::Memory) => return Step::Memory,
+    };
+    match copy_of(alloc, state.chain.as_slice()) {
+        Ok(found) => {
+            state.found = found;
+            state.point = point;
+            state.at = 0;
+            Step::On
+        }
+        Err(_) => Step::Memory,
+    }
+}
+
+/// Whether the point breaks the row, or the first operation of its left side that is too wide.
+fn is_broken(row: &Row, point: &[Frac]) -> Result<bool, Wide>
+    requires { length row.now.coefs ≡ length point.now }
+    ensures { TestTells row.now point.now result }
+{
+    let sum = left_side(row.coefs.as_slice(), point)?;
+    Ok(is_over(sum, row.bound))
+}
+
+/// Whether the row is the last one of the chain.
+fn is_last(chain: &[usize], at: usize) -> bool
+    ensures { result ≡ first_is at (reverse chain.now) }
+{
+    match chain.last() {
+        Some(last) => *last == at,
+        None => false,
+    }
+}
+
+/// The line of a row, before any elimination.
+fn line_of(alloc: Global, rows: &[Row], at: usize) -> Result<List<Whole>, AllocError>
+    requires { at < length rows.now }
+    ensures { IfOk result (λ line. line ≡ line_of rows.now at) }
+{
+    row_line(alloc, &rows[at], rows.len(), at)
+}
+
+/// The coefficients, the bound, and `count` multipliers, 1 at `at` and else 0.
+fn row_line(alloc: Global, row: &Row, count: usize, at: usize) -> Result<List<Whole>, AllocError>
+    ensures { IfOk result (λ line. line ≡ row.now.coefs ++ row.now.bound ∷ marks count at) }
+{
+    let mut line = List::new(alloc);
+    for coef in row.coefs.as_slice() {
+        line.push(*coef)?;
+    }
+    line.push(row.bound)?;
+    for other in 0..count {
+        line.push(if other == at {
+            Whole::new(1)
+        } else {
+            Whole::new(0)
+        })?;
+    }
+    Ok(line)
+}
+
+/// The multipliers of a line.
+fn times_of(alloc: Global, width: usize, line: &[Whole]) -> Result<List<Whole>, AllocError>
+    requires { width < length line.now }
+    ensures { IfOk result (λ times. times ≡ drop (width + 1) line.now) }
+{
+    let mut times = List::new(alloc);
+    let (_, rest) = line.split_at(width + 1);
+    for entry in rest {
+        times.push(*entry)?;
+    }
+    Ok(times)
+}
+
+/// The strain, on a copy of the chain.
+fn strained(alloc: Global, chain: &[usize], place: Place, wide: Wide) -> Step
+    ensures { IsStrained chain.now place wide result }
+{
+    match copy_of(alloc, chain) {
+        Ok(chain) => Step::Strain(Strain { chain, place, wide }),
+        Err(_) => Step::Memory,
+    }
+}
+
+/// The same row numbers.
+fn copy_of(alloc: Global, chain: &[usize]) -> Result<List<usize>, AllocError>
+    ensures { IfOk result (λ copy. copy ≡ chain.now) }
+{
+    let mut copy = List::new(alloc);
+    for row in chain {
+        copy.push(*row)?;
+    }
+    Ok(copy)
+}

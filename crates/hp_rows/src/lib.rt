@@ -1,0 +1,24 @@
+//! Rows of whole coefficients with a bound, decided over the fractions by dimension descent.
+//!
+//! `descend` answers a point at which every row holds, a combination of the rows that contradicts them, or the first
+//! number that is wider than 128 bits on a stated way.
+#![tactic(auto)]
+
+ghost use Rattle.hp_rows.specs.Laws.{ChainIsPositive};
+
+mod answer;
+mod coordinates;
+mod descent;
+mod division;
+mod fractions;
+mod line;
+mod row;
+
+pub use answer::{Answer, Place, Strain};
+pub use descent::descend;
+pub use row::{Row, are_wide};
+
+/// In a combination that contradicts the rows of a chain, the rows of the chain have positive multipliers.
+pub fn chain_is_positive()
+    ensures { ChainIsPositive }
+{}
