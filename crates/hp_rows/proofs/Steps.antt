@@ -22,7 +22,7 @@ use Rattle.hp_rows.specs.declared.descent.Step.{Step}
 use Rattle.hp_rows.specs.declared.descent.Step.TheVariants as step
 use Rattle.hp_rows.specs.Strain.{IsStrainAt}
 use Rattle.hp_rows.specs.Answers.{IsRefuted}
-use Rattle.hp_rows.specs.Steps.{first_is, IsStrained, StepTells}
+use Rattle.hp_rows.specs.Steps.{first_is, IsStateOf, IsStrained, IsPushed, StepTells}
 use Rattle.hp_rows.specs.declared.answer.Place.TheVariants as place
 use Rattle.hp_rows.proofs.Clearing.{bound}
 use Rattle.hp_rows.proofs.Moves.{rank-hold, rank-pop, rank-push, rank-bound, hold, pop, push, link, closed, size_of, equations_gave}
@@ -212,3 +212,19 @@ told_strain rows w old new chain at wide (step.Contradiction times) i h = absurd
 told_strain rows w old new chain at wide (step.Strain s) i h =
     subst (λ c. IsStrainAt rows w (reverse c) s.place s.wide) (sym i.0) (subst (λ p. IsStrainAt rows w (reverse chain) p s.wide) (sym i.1) (subst (λ e. IsStrainAt rows w (reverse chain) at e) (sym i.2) h))
 told_strain rows w old new chain at wide step.Memory i h = tt
+
+-- a row that was put on the chain
+pub told_push : (rows : List Row) (w : ℕ) (wide : AreWide w rows) (old new : State) (l : Line) (r : Step) → IsStateOf rows w old → old.at < length rows
+    → first_is old.at (reverse old.chain) ≡ false → Breaks (row_at rows old.at) (at_point old.point) → reduce (reverse old.lines) (line_of rows old.at) ≡ Ok l → pivot l < w
+    → IsPushed w l old new r → StepTells rows w old new r
+told_push rows w wide old new l step.On s h f b q p i =
+    (let x = extended rows w wide old.chain old.lines (reverse old.found) old.point old.at s h f b l new.chain new.lines new.found new.point q p i.chain i.lines i.found i.point in
+    record {
+      state = subst (λ n. IsState rows w (reverse new.chain) (reverse new.lines) (reverse new.found) new.point n) (sym i.anew) x.state;
+      rises = subst (λ n. rank (reverse old.chain) old.at < rank (reverse new.chain) n) (sym i.anew) x.rises;
+    })
+told_push rows w wide old new l (step.Contradiction times) s h f b q p i = absurd i
+told_push rows w wide old new l (step.Strain t) s h f b q p i =
+    subst (λ k. IsStrainAt rows w (reverse t.chain) k t.wide) (sym i.place)
+    (strain_point rows w wide old.chain old.lines (reverse old.found) old.point old.at s h f b l t.chain (old.lines ++ l ∷ []) t.wide q p i.chain refl i.wide)
+told_push rows w wide old new l step.Memory s h f b q p i = tt

@@ -1,11 +1,15 @@
 -- What a step of the descent comes to.
-use Rattle.std.specs.Prelude.{◌≡◌, ℕ, ◌<◌, Bool, false, nat_eq, List, [], ◌∷◌, reverse}
+use Rattle.std.specs.Prelude.{◌≡◌, ℕ, ◌<◌, Bool, false, nat_eq, Ok, Err, List, [], ◌∷◌, ◌++◌, reverse}
 use Rattle.hp_num.specs.declared.wide.Wide.{Wide}
 use Rattle.hp_rows.specs.declared.row.Row.{Row}
 use Rattle.hp_rows.specs.declared.answer.Place.{Place}
+use Rattle.hp_rows.specs.declared.answer.Place.TheVariants as place
+use Rattle.hp_rows.specs.declared.answer.Strain.{Strain}
 use Rattle.hp_rows.specs.declared.descent.State.{State}
 use Rattle.hp_rows.specs.declared.descent.Step.{Step}
 use Rattle.hp_rows.specs.declared.descent.Step.TheVariants as step
+use Rattle.hp_rows.specs.Lines.{Line}
+use Rattle.hp_rows.specs.Points.{point_of}
 use Rattle.hp_rows.specs.Strain.{IsStrain}
 use Rattle.hp_rows.specs.Descent.{IsState, rank}
 use Rattle.hp_rows.specs.Answers.{IsRefuted}
@@ -37,3 +41,24 @@ IsStrained chain at wide step.On = ⊥
 IsStrained chain at wide (step.Contradiction times) = ⊥
 IsStrained chain at wide (step.Strain s) = (s.chain ≡ chain) × (s.place ≡ at) × (s.wide ≡ wide)
 IsStrained chain at wide step.Memory = Unit {0}
+
+-- row `at` is on the chain with this line, and the point is that of the longer chain
+pub record HasPushed (w : ℕ) (line : Line) (old new : State) : Type 0 where
+  pub chain : new.chain ≡ old.chain ++ old.at ∷ []
+  pub lines : new.lines ≡ old.lines ++ line ∷ []
+  pub found : new.found ≡ new.chain
+  pub point : point_of w (reverse new.lines) ≡ Ok new.point
+  pub anew : new.at ≡ 0
+
+-- the point of the longer chain is strained
+pub record IsPushStrained (w : ℕ) (line : Line) (old : State) (s : Strain) : Type 0 where
+  pub chain : s.chain ≡ old.chain ++ old.at ∷ []
+  pub place : s.place ≡ place.Point
+  pub wide : point_of w (reverse (old.lines ++ line ∷ [])) ≡ Err s.wide
+
+-- row `at` is put on the chain with this line, or the point of that is strained
+abbrev pub IsPushed : ℕ → Line → State → State → Step → Type 0
+IsPushed w line old new step.On = HasPushed w line old new
+IsPushed w line old new (step.Contradiction times) = ⊥
+IsPushed w line old new (step.Strain s) = IsPushStrained w line old s
+IsPushed w line old new step.Memory = Unit {0}

@@ -4,13 +4,13 @@
 //! the chain comes up itself, it holds as an equation and is taken off. The descent ends with a point at which every row
 //! was tested, or with a reduced row that has no coefficients, whose multipliers contradict the rows.
 
-ghost use Rattle.std.specs.Prelude.{◌≡◌, ◌<◌, ◌+◌, ◌∷◌, ◌++◌, length, reverse, drop, IfOk, false};
+ghost use Rattle.std.specs.Prelude.{◌≡◌, ◌<◌, ◌+◌, [], ◌∷◌, ◌++◌, length, reverse, drop, IfOk, false};
 ghost use Rattle.hp_rows.specs.Rows.{AreWide, Breaks, row_at};
 ghost use Rattle.hp_rows.specs.Lines.{line_of, marks};
-ghost use Rattle.hp_rows.specs.Points.{at_point};
+ghost use Rattle.hp_rows.specs.Points.{at_point, PointFit};
 ghost use Rattle.hp_rows.specs.Told.{TestTells};
 ghost use Rattle.hp_rows.specs.Answers.{Answers};
-ghost use Rattle.hp_rows.specs.Steps.{IsStrained, IsStateOf, StepTells, first_is};
+ghost use Rattle.hp_rows.specs.Steps.{IsPushed, IsStrained, IsStateOf, StepTells, first_is};
 
 use crate::answer::{Answer, Place, Strain};
 use crate::coordinates::{left_side, point_of};
@@ -94,7 +94,7 @@ fn advance(alloc: Global, width: usize, rows: &[Row], state: &mut State) -> Step
     }
 }
 
-/// Puts the row that the point breaks on the chain, and moves to the point of that.
+/// Puts the row that the point breaks on the chain, or ends with the contradiction that it gives.
 fn extend(alloc: Global, width: usize, rows: &[Row], state: &mut State) -> Step
     requires wide { AreWide width rows.now }
     requires state { IsStateOf rows.now width state.now }
@@ -120,6 +120,14 @@ fn extend(alloc: Global, width: usize, rows: &[Row], state: &mut State) -> Step
             Err(_) => Step::Memory,
         };
     }
+    push(alloc, width, state, line)
+}
+
+/// Puts row `at` with its reduced line on the chain, and moves to the point of that, where all rows are taken anew.
+fn push(alloc: Global, width: usize, state: &mut State, line: List<Whole>) -> Step
+    requires { PointFit width (state.now.lines ++ line ∷ []) }
+    ensures { IsPushed width line state.old state.new result }
+{
     if state.chain.push(state.at).is_err() {
         return Step::Memory;
     }

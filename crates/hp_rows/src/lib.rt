@@ -13,6 +13,8 @@ mod division;
 mod fractions;
 mod line;
 mod row;
+#[cfg(test)]
+mod tests;
 
 pub use answer::{Answer, Place, Strain};
 pub use descent::descend;

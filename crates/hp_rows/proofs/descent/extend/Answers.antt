@@ -1,7 +1,7 @@
-use Rattle.std.proofs.Common.{◌≡◌, ◌<◌, ◌≤◌, reverse, ◌∙◌, ap, subst, ◌++◌, ◌∷◌, [], rules}
+use Rattle.std.proofs.Common.{refl, ◌<◌, ◌≤◌, reverse, ◌∙◌, ap, subst, ◌++◌, ◌∷◌, []}
 use Rattle.hp_rows.specs.Lines.{pivot}
 use Rattle.hp_rows.specs.declared.answer.Place.TheVariants as place
-use Rattle.hp_rows.proofs.Steps.{strain_line, strain_point, extended, refuted, long, told_strain, lines_fit, pushed_fits}
+use Rattle.hp_rows.proofs.Steps.{strain_line, refuted, long, told_strain, told_push, lines_fit, pushed_fits}
 use Rattle.hp_rows.proofs.descent.extend.Goals as goal
 use Rattle.hp_rows.proofs.descent.extend.Goals.{in-Ok-times_of, in-Err-times_of}
 
@@ -42,42 +42,19 @@ returns-then-pivot-width c =
       | in-Err-times_of w ↦ rw w.result-is tt
     ]
 
-pub point_of-requires : goal.point_of-requires
-point_of-requires c =
+pub push-requires : goal.push-requires
+push-requires c =
     let s = c.args.state.now in
     let l = rw c.in-Ok.is at c.line_of.ensures in
     let r = rw (c.in-Ok-reduce.is, c.as_slice.ensures, l) at c.reduce.ensures in
     let p : pivot c.in-Ok-reduce.line < c.args.width = subst (λ n. n < c.args.width) (c.pivot.ensures ∙ ap pivot c.as_slice-2.ensures) c.if-pivot-width.false in
-    let a : c.push.new.self ≡ s.chain ++ s.at ∷ [] = search rules in
-    let b : c.push-2.new.self ≡ s.lines ++ c.in-Ok-reduce.line ∷ [] = search rules in
-    rw c.as_slice-3.ensures
-    (pushed_fits c.args.rows.now c.args.width c.requires.wide s.chain s.lines (reverse s.found) s.point s.at c.requires.state c.requires.more c.requires.other c.requires.broken
-    c.in-Ok-reduce.line c.push-2.new.self r p b)
+    pushed_fits c.args.rows.now c.args.width c.requires.wide s.chain s.lines (reverse s.found) s.point s.at c.requires.state c.requires.more c.requires.other c.requires.broken
+    c.in-Ok-reduce.line (s.lines ++ c.in-Ok-reduce.line ∷ []) r p refl
 
-pub returns-in-Err-Wide-point_of : goal.returns-in-Err-Wide-point_of
-returns-in-Err-Wide-point_of c =
+pub returns : goal.returns
+returns c =
     let s = c.args.state.now in
     let l = rw c.in-Ok.is at c.line_of.ensures in
     let r = rw (c.in-Ok-reduce.is, c.as_slice.ensures, l) at c.reduce.ensures in
     let p : pivot c.in-Ok-reduce.line < c.args.width = subst (λ n. n < c.args.width) (c.pivot.ensures ∙ ap pivot c.as_slice-2.ensures) c.if-pivot-width.false in
-    let a : c.push.new.self ≡ s.chain ++ s.at ∷ [] = search rules in
-    let b : c.push-2.new.self ≡ s.lines ++ c.in-Ok-reduce.line ∷ [] = search rules in
-    let q = rw (c.in-Err-Wide-point_of.is, c.in-Err-Wide-point_of.field-0-is, c.as_slice-3.ensures) at c.point_of.ensures in
-    let i = rw c.as_slice-in-Err-Wide-point_of.ensures at c.strained-in-Err-Wide-point_of.ensures in
-    told_strain c.args.rows.now c.args.width _ _ c.push.new.self place.Point c.in-Err-Wide-point_of.wide c.strained-in-Err-Wide-point_of.result i
-    (strain_point c.args.rows.now c.args.width c.requires.wide s.chain s.lines (reverse s.found) s.point s.at c.requires.state c.requires.more c.requires.other c.requires.broken
-    c.in-Ok-reduce.line c.push.new.self c.push-2.new.self c.in-Err-Wide-point_of.wide r p a b q)
-
-pub returns-in-Ok-copy_of : goal.returns-in-Ok-copy_of
-returns-in-Ok-copy_of c =
-    let s = c.args.state.now in
-    let l = rw c.in-Ok.is at c.line_of.ensures in
-    let r = rw (c.in-Ok-reduce.is, c.as_slice.ensures, l) at c.reduce.ensures in
-    let p : pivot c.in-Ok-reduce.line < c.args.width = subst (λ n. n < c.args.width) (c.pivot.ensures ∙ ap pivot c.as_slice-2.ensures) c.if-pivot-width.false in
-    let a : c.push.new.self ≡ s.chain ++ s.at ∷ [] = search rules in
-    let b : c.push-2.new.self ≡ s.lines ++ c.in-Ok-reduce.line ∷ [] = search rules in
-    let q = rw (c.in-Ok-point_of.is, c.as_slice-3.ensures) at c.point_of.ensures in
-    let k = rw (c.in-Ok-copy_of.is, c.as_slice-4.ensures) at c.copy_of.ensures in
-    let x = extended c.args.rows.now c.args.width c.requires.wide s.chain s.lines (reverse s.found) s.point s.at c.requires.state c.requires.more c.requires.other c.requires.broken
-    c.in-Ok-reduce.line c.push.new.self c.push-2.new.self c.in-Ok-copy_of.found c.in-Ok-point_of.point r p a b k q in
-    record { state = x.state; rises = x.rises }
+    told_push c.args.rows.now c.args.width c.requires.wide s _ c.in-Ok-reduce.line c.push.result c.requires.state c.requires.more c.requires.other c.requires.broken r p c.push.ensures
