@@ -50,7 +50,7 @@ whole-pos : (x : ℤ) → whole (pos 0) <ℚ whole x → pos 0 <ℤ x
 unfolding whole
 whole-pos x h = ratio-<_out (pos 0) x 1 (omega arith) h
 
-*ℤ-neg : (a b : ℤ) → a *ℤ neg_ℤ b ≡ neg_ℤ (a *ℤ b)
+pub *ℤ-neg : (a b : ℤ) → a *ℤ neg_ℤ b ≡ neg_ℤ (a *ℤ b)
 *ℤ-neg a b = let m = neg_is b in let n = neg_is (a *ℤ b) in same_in _ _ (rw (n.0, n.1) (simp (up-*ℤ, down-*ℤ) (rw (m.0, m.1) (omega arith))))
 
 one_more : (m F b S B : ℤ) → (whole m *ℚ (whole F -ℚ whole b)) +ℚ (whole S -ℚ whole B) ≡ whole ((m *ℤ F) +ℤ S) -ℚ whole ((m *ℤ b) +ℤ B)

@@ -6,6 +6,8 @@ mod Start
 mod Contradiction
 mod Number
 mod Point
+mod Exact
+mod Refute
 mod Moves
 mod Steps
 mod Sums

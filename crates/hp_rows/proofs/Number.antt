@@ -26,8 +26,9 @@ add_gave x y z e = given (λ s. s ≡ x +ℚ y) (add_q x y) z (add_exact (gcd x.
 one_left : (x : ℚ) → x *ℚ whole (pos 1) ≡ x
 one_left x = *ℚ_comm x (whole (pos 1)) ∙ one-times x
 
+pub quotient_gave : (x t z : ℚ) → ¬ (t ≡ whole (pos 0)) → div_q x t ≡ Ok z → z *ℚ t ≡ x
+quotient_gave x t z n e =
+    ap (λ q. q *ℚ t) (mul_gave x (recip t) z e) ∙ *ℚ_assoc x (recip t) t ∙ ap (λ q. x *ℚ q) (recip-*ℚ t n) ∙ one_left x
+
 pub div_gave : (x z : ℚ) (v : ℤ) → ¬ (v ≡ pos 0) → div_q x (whole v) ≡ Ok z → whole v *ℚ z ≡ x
-div_gave x z v n e =
-    let r = mul_gave x (recip (whole v)) z e in
-    ap (λ q. whole v *ℚ q) r ∙ *ℚ_comm (whole v) (x *ℚ recip (whole v)) ∙ *ℚ_assoc x (recip (whole v)) (whole v)
-    ∙ ap (λ q. x *ℚ q) (recip-*ℚ (whole v) (λ q. n (whole-inj v (pos 0) q))) ∙ one_left x
+div_gave x z v n e = *ℚ_comm (whole v) z ∙ quotient_gave x (whole v) z (λ q. n (whole-inj v (pos 0) q)) e

@@ -1,5 +1,5 @@
 -- What the descent answers: a point at which every row holds, a contradiction, a strain, or want of memory.
-use Rattle.std.specs.Prelude.{ℕ, ℤ, List, length, reverse}
+use Rattle.std.specs.Prelude.{◌≡◌, ℕ, ℤ, List, length, reverse}
 use Rattle.hp_math.specs.Rational.{ℚ}
 use Rattle.hp_rows.specs.declared.row.Row.{Row}
 use Rattle.hp_rows.specs.declared.answer.Answer.{Answer}
@@ -8,8 +8,9 @@ use Rattle.hp_rows.specs.Rows.{HoldsBelow, IsContradiction, AreNotNegative}
 use Rattle.hp_rows.specs.Points.{at_point, IsPointOf}
 use Rattle.hp_rows.specs.Strain.{IsStrain}
 
--- the point of this chain, the first row of which is listed first; every row holds there
+-- the point of this chain, the first row of which is listed first, with a value for each column; every row holds there
 pub record IsPoint (rows : List Row) (w : ℕ) (chain : List ℕ) (point : List ℚ) : Type 0 where
+  pub size : length point ≡ w
   pub point_of_chain : IsPointOf rows w (reverse chain) point
   pub holds : HoldsBelow rows (length rows) (at_point point)
 

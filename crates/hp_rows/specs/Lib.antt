@@ -3,6 +3,7 @@ pub mod Laws
 pub mod Arithmetic
 pub mod Lines
 pub mod Points
+pub mod Exact
 pub mod Strain
 pub mod Answers
 pub mod Descent

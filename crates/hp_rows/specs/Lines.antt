@@ -42,16 +42,18 @@ gcd_from d (z ∷ zs) = gcd_from (gcd d (unsigned_abs z)) zs
 abbrev pub divided : Line → Line
 divided line = map (λ z. over z (gcd_from 0 line)) line
 
--- the row cleared at the pivot of g, where g has v and the row has w: with h the greatest common divisor of both it is
--- |v|/h times the row less w/h times g, v's sign taken in, and then divided by the common divisor of its entries
+-- how many times the row is taken to clear it at the pivot of g: where g has v and the row has w, |v| over their
+-- greatest common divisor
+abbrev pub row_share : Line → Line → ℤ
+row_share g row = over (pos (unsigned_abs (entry g (pivot g)))) (gcd (unsigned_abs (entry g (pivot g))) (unsigned_abs (entry row (pivot g))))
+
+-- how many times g is then taken away: w over the greatest common divisor, the sign of v taken in
+abbrev pub line_share : Line → Line → ℤ
+line_share g row = signed_by (entry g (pivot g)) (over (entry row (pivot g)) (gcd (unsigned_abs (entry g (pivot g))) (unsigned_abs (entry row (pivot g)))))
+
+-- the row cleared at the pivot of g, and divided by the greatest common divisor of its entries
 abbrev pub clear : Line → Line → Result Line Wide
-clear g row =
-    if is_nothing (entry row (pivot g)) then Ok row else
-    (subtract (over (pos (unsigned_abs (entry g (pivot g)))) (gcd (unsigned_abs (entry g (pivot g))) (unsigned_abs (entry row (pivot g)))))
-    row
-    (signed_by (entry g (pivot g)) (over (entry row (pivot g)) (gcd (unsigned_abs (entry g (pivot g))) (unsigned_abs (entry row (pivot g))))))
-    g
-    >>= λ line. Ok (divided line))
+clear g row = if is_nothing (entry row (pivot g)) then Ok row else (subtract (row_share g row) row (line_share g row) g >>= λ line. Ok (divided line))
 
 -- the row cleared at the pivots of the equations in turn, the last of which stands first
 abbrev pub reduce : List Line → Line → Result Line Wide

@@ -1,5 +1,5 @@
 -- The point of a chain: back substitution into its reduced equations, the last of which stands first.
-use Rattle.std.specs.Prelude.{◌≡◌, ◌<◌, ℕ, pos, Result, Ok, List, [], ◌∷◌, length, get_or, set, replicate}
+use Rattle.std.specs.Prelude.{◌≡◌, ◌<◌, ℕ, pos, Result, Ok, List, [], ◌∷◌, length, get_or, set, take, replicate}
 use Rattle.hp_math.specs.Rational.{ℚ, whole}
 use Rattle.hp_num.specs.declared.wide.Wide.{Wide}
 use Rattle.hp_num.specs.Wide.{◌>>=◌}
@@ -40,6 +40,15 @@ abbrev pub left_of : ℚ → Line → List ℚ → Result ℚ Wide
 left_of sum cs [] = Ok sum
 left_of sum [] (x ∷ xs) = Ok sum
 left_of sum (c ∷ cs) (x ∷ xs) = mul_q (whole c) x >>= λ y. add_q sum y >>= λ a. left_of a cs xs
+
+-- numbers over t, in their order
+abbrev pub quotients : ℚ → List ℚ → Result (List ℚ) Wide
+quotients t [] = Ok []
+quotients t (x ∷ xs) = div_q x t >>= λ y. quotients t xs >>= λ ys. Ok (y ∷ ys)
+
+-- the values that a point of homogeneous rows gives: each coordinate before column t, over the one at t
+abbrev pub values_of : ℕ → List ℚ → Result (List ℚ) Wide
+values_of t xs = quotients (at_point xs t) (take t xs)
 
 -- lines from which a point of this width can be computed
 abbrev pub PointFit : ℕ → List Line → Type 0

@@ -2,13 +2,15 @@
 
 use hp_num::{Frac, List, Whole, Wide};
 
-/// Where a number passes: as a chain is eliminated from the row of this number, counted from 0, as the point of a chain
-/// is computed, or as this row's left side is summed at the point of a chain.
+/// Where a number passes: as a chain is eliminated from the row of this number, counted from 0; as the point of a chain
+/// is computed; as this row's left side is summed at the point of a chain; or as a coordinate of the point of a chain is
+/// divided by the last one, where every row holds.
 #[derive(Clone, Copy)]
 pub enum Place {
     Line(usize),
     Point,
     Sum(usize),
+    Value,
 }
 
 /// The first number that passes 2^127 - 1 over this chain, which lists row numbers from 0 in the order of the chain, with

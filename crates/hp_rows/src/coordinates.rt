@@ -1,12 +1,13 @@
-//! The point of the lines of a chain, and the left side of a row at a point.
+//! The point of the lines of a chain, the left side of a row at a point, and the values that a point gives.
 //!
 //! A point has one fraction for each column, in the order of the columns.
 
-ghost use Rattle.std.specs.Prelude.{◌≡◌, ◌<◌, pos, length, reverse, IfOk};
+ghost use Rattle.std.specs.Prelude.{◌≡◌, ◌≢◌, ◌<◌, ◌-◌, pos, length, reverse, IfOk};
 ghost use Rattle.hp_math.specs.Rational.{whole};
 ghost use Rattle.hp_rows.specs.Lines.{pivot};
-ghost use Rattle.hp_rows.specs.Points.{coordinate, zeros, left_of, point_of, PointFit};
+ghost use Rattle.hp_rows.specs.Points.{at_point, coordinate, zeros, left_of, point_of, values_of, PointFit};
 ghost use Rattle.hp_rows.specs.Told.{Tells};
+ghost use Rattle.hp_rows.specs.Exact.{AreQuotients};
 
 use crate::fractions::{difference, fraction, product, quotient, sum};
 use crate::line::{Fail, pivot};
@@ -24,7 +25,7 @@ fn coordinate(g: &[Whole], point: &[Frac]) -> Result<Frac, Wide>
         let part = product(g[at], point[at])?;
         rest = difference(rest, part)?;
     }
-    quotient(rest, g[pivot(g)])
+    quotient(rest, fraction(g[pivot(g)]))
 }
 
 /// The point that is 0 at each column.
@@ -71,4 +72,29 @@ pub fn point_of(alloc: Global, width: usize, lines: &[List<Whole>]) -> Result<Li
         }
     }
     Ok(point)
+}
+
+/// The coordinates before the last one, each over the last, in their order. With homogeneous rows, whose last column is
+/// the number that scales the bounds, these are the values of the other columns.
+pub fn values(alloc: Global, point: &[Frac]) -> Result<List<Frac>, Fail>
+    requires { at_point point.now (length point.now - 1) ≢ whole (pos 0) }
+    ensures told { Tells result (values_of (length point.now - 1) point.now) }
+    ensures exact { IfOk result (λ values. AreQuotients (length point.now - 1) point.now values) }
+{
+    let mut out = List::new(alloc);
+    if point.len() == 0 {
+        return Ok(out);
+    }
+    let last = point.len() - 1;
+    for at in 0..last {
+        match quotient(point[at], point[last]) {
+            Ok(value) => {
+                if out.push(value).is_err() {
+                    return Err(Fail::Memory);
+                }
+            }
+            Err(wide) => return Err(Fail::Wide(wide)),
+        }
+    }
+    Ok(out)
 }

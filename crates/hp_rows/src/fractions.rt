@@ -36,11 +36,11 @@ pub fn difference(left: Frac, right: Frac) -> Result<Frac, Wide>
 }
 
 /// The value over a divisor that isn't 0.
-pub fn quotient(value: Frac, divisor: Whole) -> Result<Frac, Wide>
-    requires { divisor ≢ pos 0 }
-    ensures { result ≡ div_q value (whole divisor) }
+pub fn quotient(value: Frac, divisor: Frac) -> Result<Frac, Wide>
+    requires { divisor ≢ whole (pos 0) }
+    ensures { result ≡ div_q value divisor }
 {
-    Frac::div(value, fraction(divisor))
+    Frac::div(value, divisor)
 }
 
 /// Whether the sum is over the bound.

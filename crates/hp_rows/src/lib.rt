@@ -4,7 +4,7 @@
 //! number that is wider than 128 bits on a stated way.
 #![tactic(auto)]
 
-ghost use Rattle.hp_rows.specs.Laws.{ChainIsPositive};
+ghost use Rattle.hp_rows.specs.Laws.{ChainIsPositive, ContradictionsRefute, PointsAreExact, PointsMeetChains};
 
 mod answer;
 mod coordinates;
@@ -17,10 +17,27 @@ mod row;
 mod tests;
 
 pub use answer::{Answer, Place, Strain};
+pub use coordinates::values;
 pub use descent::descend;
+pub use line::Fail;
 pub use row::{Row, are_wide};
 
 /// In a combination that contradicts the rows of a chain, the rows of the chain have positive multipliers.
 pub fn chain_is_positive()
     ensures { ChainIsPositive }
+{}
+
+/// The point that is computed for a chain is the exact one.
+pub fn points_are_exact()
+    ensures { PointsAreExact }
+{}
+
+/// The point of a chain makes its rows true as equations.
+pub fn points_meet_chains()
+    ensures { PointsMeetChains }
+{}
+
+/// A combination that contradicts the rows leaves no values at which all of them hold.
+pub fn contradictions_refute()
+    ensures { ContradictionsRefute }
 {}
