@@ -9,5 +9,6 @@ mod Point
 mod Exact
 mod Refute
 mod Moves
+mod Chains
 mod Steps
 mod Sums

@@ -1,5 +1,5 @@
 -- The four steps of the descent, and the measure that falls at each.
-use Rattle.std.proofs.Common.{◌≡◌, ℕ, zero, suc, ◌+◌, ◌<◌, ◌≤◌, inl, inr, refl, sym, ◌∙◌, ap, subst, arith, List, [], ◌∷◌, length, drop, Ok}
+use Rattle.std.proofs.Common.{◌≡◌, ℕ, zero, suc, ◌+◌, ◌<◌, ◌≤◌, inl, inr, refl, sym, ◌∙◌, ap, subst, arith, List, [], ◌∷◌, length, Ok}
 use Rattle.std.proofs.lemmas.Bool.{cases_lt}
 use Rattle.hp_math.specs.Rational.{ℚ, ◌≤ℚ◌}
 use Rattle.hp_math.proofs.Field.{≤ℚ_refl}
@@ -10,9 +10,8 @@ use Rattle.hp_rows.specs.Lines.{Line, line_of, pivot, reduce, equations}
 use Rattle.hp_rows.specs.Points.{at_point, point_of, HavePivots}
 use Rattle.hp_rows.specs.Descent.{high, rank, IsUnder, IsState}
 use Rattle.hp_rows.proofs.Lines.{AreReduced}
-use Rattle.hp_rows.proofs.Clearing.{bound, reduce_gave, before_pivot}
+use Rattle.hp_rows.proofs.Clearing.{bound, reduce_gave}
 use Rattle.hp_rows.proofs.Start.{starts}
-use Rattle.hp_rows.proofs.Contradiction.{Contradicts, contradicts}
 use Rattle.hp_rows.proofs.Point.{point_meets}
 
 -- ---- the measure
@@ -144,23 +143,7 @@ module _ (rows : List Row) (w : ℕ) (wide : AreWide w rows) where
     breaks = b;
   }
 
-  -- without coefficients its line is a contradiction
-  pub closed : (chain : List ℕ) (lines : List Line) (found : List ℕ) (point : List ℚ) (at : ℕ) (l : Line) → IsState rows w chain lines found point at
-      → IsUnder (length rows) chain (suc at) → Breaks (row_at rows at) (at_point point) → reduce lines (line_of rows at) ≡ Ok l → w ≤ pivot l
-      → Contradicts w rows (at ∷ chain) (drop (suc w) l)
-  closed chain lines found point at l s u b h p =
-      let k = link chain lines found point at s u b in
-      let r = reduce_gave rows w chain lines at (line_of rows at) l (equations_gave rows w chain lines wide s.is_chain s.pivots s.made) s.pivots k.falls (starts rows w at k.within wide) h in
-      contradicts rows w chain lines at l r (k, s.is_chain) (λ i q. before_pivot l i (omega arith))
-
-  -- the length of its line
-  pub size_of : (chain : List ℕ) (lines : List Line) (found : List ℕ) (point : List ℚ) (at : ℕ) (l : Line) → IsState rows w chain lines found point at
-      → IsUnder (length rows) chain (suc at) → Breaks (row_at rows at) (at_point point) → reduce lines (line_of rows at) ≡ Ok l → length l ≡ suc w + length rows
-  size_of chain lines found point at l s u b h =
-      let k = link chain lines found point at s u b in
-      (reduce_gave rows w chain lines at (line_of rows at) l (equations_gave rows w chain lines wide s.is_chain s.pivots s.made) s.pivots k.falls (starts rows w at k.within wide) h).line.size
-
-  -- else the chain has one row more, and the descent begins anew at its point
+  -- with its line, the chain has one row more, and the descent begins anew at its point
   pub push : (chain : List ℕ) (lines : List Line) (found : List ℕ) (point : List ℚ) (at : ℕ) (l : Line) (next : List ℚ) → IsState rows w chain lines found point at
       → IsUnder (length rows) chain (suc at) → Breaks (row_at rows at) (at_point point) → reduce lines (line_of rows at) ≡ Ok l → pivot l < w
       → point_of w (l ∷ lines) ≡ Ok next → IsState rows w (at ∷ chain) (l ∷ lines) (at ∷ chain) next 0

@@ -1,31 +1,28 @@
 -- The steps of the descent over the lists as the code keeps them, the last row at the end.
-use Rattle.std.proofs.Common.{◌≡◌, ℕ, ℤ, zero, suc, ◌+◌, ◌-◌, ◌<◌, ◌≤◌, inl, inr, refl, sym, ◌∙◌, ap, subst, arith, List, [], ◌∷◌, ◌++◌, length, reverse, take, get_or, set, nat_eq, true, false, Option, Some, None, Ok, Err, drop, add-one}
+use Rattle.std.proofs.Common.{◌≡◌, ℕ, suc, ◌+◌, ◌-◌, ◌<◌, ◌≤◌, inl, inr, refl, sym, ◌∙◌, ap, subst, arith, List, [], ◌∷◌, ◌++◌, length, reverse, take, get_or, set, nat_eq, true, false, Option, Some, None, Ok, Err, drop, add-one}
 use Rattle.std.specs.Prelude.{MatchOption}
-use Rattle.std.proofs.lemmas.List.{reverse-append, get_or-reverse, length-reverse, take_more, take-append-drop}
+use Rattle.std.proofs.lemmas.List.{reverse-append, take_more, take-append-drop}
 use Rattle.std.proofs.lemmas.Bool.{eqb-true, eqb-false, cases_lt}
 use Rattle.hp_math.specs.Rational.{ℚ}
 use Rattle.hp_rows.specs.declared.row.Row.{Row}
 use Rattle.hp_num.specs.declared.wide.Wide.{Wide}
 use Rattle.hp_rows.specs.Rows.{row_at, Holds, Breaks, AreWide, IsChain}
 use Rattle.hp_num.specs.Wide.{◌>>=◌}
-use Rattle.hp_rows.specs.Lines.{Line, line_of, pivot, clear, reduce, equations, LinesFit}
-use Rattle.hp_rows.proofs.Lines.{AreReduced}
-use Rattle.hp_rows.proofs.Start.{starts}
+use Rattle.hp_rows.specs.Lines.{Line, line_of, pivot, clear, reduce, equations}
 use Rattle.hp_rows.specs.Points.{at_point, point_of, solve, coordinate, PointFit, HavePivots}
 use Rattle.hp_rows.specs.Descent.{high, rank, IsUnder, IsState}
 use Rattle.hp_rows.specs.declared.line.Fail.{Fail}
 use Rattle.hp_rows.specs.declared.line.Fail.TheVariants as fail
 use Rattle.hp_rows.specs.Told.{Tells}
-use Rattle.hp_rows.specs.declared.answer.Place.{Place}
 use Rattle.hp_rows.specs.declared.descent.State.{State}
 use Rattle.hp_rows.specs.declared.descent.Step.{Step}
 use Rattle.hp_rows.specs.declared.descent.Step.TheVariants as step
 use Rattle.hp_rows.specs.Strain.{IsStrainAt}
-use Rattle.hp_rows.specs.Answers.{IsRefuted}
-use Rattle.hp_rows.specs.Steps.{first_is, IsStateOf, IsStrained, IsPushed, StepTells}
+use Rattle.hp_rows.specs.Steps.{first_is, IsStateOf, IsPushed, StepTells}
 use Rattle.hp_rows.specs.declared.answer.Place.TheVariants as place
 use Rattle.hp_rows.proofs.Clearing.{bound}
-use Rattle.hp_rows.proofs.Moves.{rank-hold, rank-pop, rank-push, rank-bound, hold, pop, push, link, closed, size_of, equations_gave}
+use Rattle.hp_rows.proofs.Chains.{snoc, point_fits}
+use Rattle.hp_rows.proofs.Moves.{rank-hold, rank-pop, rank-push, rank-bound, hold, pop, push, link}
 
 pub record Risen (rows : List Row) (w : ℕ) (before chain : List ℕ) (lines : List Line) (found : List ℕ) (point : List ℚ) (from at : ℕ) : Type 0 where
   pub state : IsState rows w chain lines found point at
@@ -51,9 +48,6 @@ popped_plain rows w wide e chain lines found point at g s t =
       state = pop rows w wide e chain g lines found point (subst (λ k. IsState rows w (e ∷ chain) (g ∷ lines) found point k) (sym d) s);
       rises = rank-pop e chain;
     }))
-
-snoc : {A : Type 0} (xs : List A) (x : A) → reverse (xs ++ x ∷ []) ≡ x ∷ reverse xs
-snoc xs x = reverse-append xs (x ∷ [])
 
 no_lines : (rows : List Row) (w e : ℕ) (es : List ℕ) → equations rows (e ∷ es) ≡ Ok [] → ⊥
 no_lines rows w e es h =
@@ -81,28 +75,6 @@ popped rows w wide chain init lines front found point at s f (Some e) m (Some g)
 
 pub left_falls : (n : ℕ) (old new : List ℕ) (i j : ℕ) → IsUnder n new j → rank old i < rank new j → high n - rank new j < high n - rank old i
 left_falls n old new i j u h = let b = rank-bound n new j u in omega arith
-
--- ---- the lines of a chain fit
-fit_back : (rows : List Row) (w : ℕ) (es : List ℕ) (gs : List Line) → AreReduced rows w es gs → HavePivots w gs → (k : ℕ) → k < length gs
-    → (length (get_or gs k []) ≡ suc w + length rows) × (pivot (get_or gs k []) < suc w + length rows)
-unfolding AreReduced HavePivots
-fit_back rows w [] [] a p k h = absurd (omega arith)
-fit_back rows w [] (g ∷ gs) a p k h = absurd a
-fit_back rows w (e ∷ es) [] a p k h = absurd a
-fit_back rows w (e ∷ es) (g ∷ gs) a p zero h = (a.0.line.size, (let q = p.0 in omega arith))
-fit_back rows w (e ∷ es) (g ∷ gs) a p (suc k) h = fit_back rows w es gs a.1 p.1 k (omega arith)
-
-turned : (lines : List Line) (k : ℕ) → k < length lines → get_or (reverse lines) (length lines - 1 - k) [] ≡ get_or lines k []
-turned lines k h =
-    get_or-reverse lines (length lines - 1 - k) [] (omega arith) ∙ ap (λ n. get_or lines n []) (let e : length lines - 1 - (length lines - 1 - k) ≡ k = omega arith in e)
-
-pub lines_fit : (rows : List Row) (w : ℕ) → AreWide w rows → (chain : List ℕ) (lines : List Line) (found : List ℕ) (point : List ℚ) (at : ℕ)
-    → IsState rows w chain (reverse lines) found point at → (j : ℕ) → j < length rows → LinesFit (length (line_of rows j)) lines
-lines_fit rows w wide chain lines found point at s j h k l =
-    let n : length (line_of rows j) ≡ suc w + length rows = (starts rows w j h wide).line.size in
-    let r = equations_gave rows w chain (reverse lines) wide s.is_chain s.pivots s.made in
-    let q = fit_back rows w chain (reverse lines) r s.pivots (length lines - 1 - k) (let e = length-reverse lines in omega arith) in
-    rw n (rw (turned lines k l) at q)
 
 -- ---- a list of lines, as far as it has been gone through
 pub reduce_more : (lines : List Line) (at : ℕ) (row line : Line) → at < length lines → reduce (reverse (take at lines)) row ≡ Ok line
@@ -143,19 +115,6 @@ solve_stops lines left point w p h e =
     let t : reverse (take left lines) ≡ get_or lines k [] ∷ reverse (take k lines) = ap reverse (s ∙ take_more lines k [] (omega arith)) ∙ snoc (take k lines) (get_or lines k []) in
     rw t (rw e refl)
 
-point_back : (w n : ℕ) (gs : List Line) → HavePivots w gs → ((k : ℕ) → k < length gs → w < length (get_or gs k [])) → (k : ℕ) → k < length gs → (pivot (get_or gs k []) < w) × (w < length (get_or gs k []))
-unfolding HavePivots
-point_back w n [] p l k h = absurd (omega arith)
-point_back w n (g ∷ gs) p l zero h = (p.0, l 0 h)
-point_back w n (g ∷ gs) p l (suc k) h = point_back w n gs p.1 (λ j q. l (suc j) (omega arith)) k (omega arith)
-
-pub point_fits : (rows : List Row) (w : ℕ) → AreWide w rows → (chain : List ℕ) (lines : List Line) → IsChain rows chain → equations rows chain ≡ Ok (reverse lines) → HavePivots w (reverse lines) → PointFit w lines
-point_fits rows w wide chain lines c m p k h =
-    let r = equations_gave rows w chain (reverse lines) wide c p m in
-    let f = fit_back rows w chain (reverse lines) r p in
-    let q = point_back w 0 (reverse lines) p (λ j l. (let z = (f j l).0 in omega arith)) (length lines - 1 - k) (let e = length-reverse lines in omega arith) in
-    rw (turned lines k h) at q
-
 -- ---- the row that the point breaks
 module _ (rows : List Row) (w : ℕ) (wide : AreWide w rows) (chain : List ℕ) (lines : List Line) (found : List ℕ) (point : List ℚ) (at : ℕ)
     (s : IsState rows w (reverse chain) (reverse lines) found point at) (h : at < length rows) (f : first_is at (reverse chain) ≡ false)
@@ -163,19 +122,8 @@ module _ (rows : List Row) (w : ℕ) (wide : AreWide w rows) (chain : List ℕ) 
   under : IsUnder (length rows) (reverse chain) (suc at)
   under = under_more (length rows) (reverse chain) at s.under h f
 
-  linked : IsChain rows (at ∷ reverse chain)
+  pub linked : IsChain rows (at ∷ reverse chain)
   linked = (link rows w wide (reverse chain) (reverse lines) found point at s under b, s.is_chain)
-
-  pub strain_line : (e : Wide) → reduce (reverse lines) (line_of rows at) ≡ Err e → IsStrainAt rows w (reverse chain) (place.Line at) e
-  strain_line e r = (linked, (reverse lines, s.made, r))
-
-  pub long : (l : Line) → reduce (reverse lines) (line_of rows at) ≡ Ok l → w < length l
-  long l r = let z = size_of rows w wide (reverse chain) (reverse lines) found point at l s under b r in omega arith
-
-  pub refuted : (l : Line) (times : List ℤ) → reduce (reverse lines) (line_of rows at) ≡ Ok l → w ≤ pivot l → times ≡ drop (w + 1) l → IsRefuted rows w times
-  refuted l times r p e =
-      let k = closed rows w wide (reverse chain) (reverse lines) found point at l s under b r p in
-      rw (e, add-one) (record { contradiction = k.contradiction; none_negative = k.none_negative })
 
   pushed : (l : Line) → reduce (reverse lines) (line_of rows at) ≡ Ok l → equations rows (at ∷ reverse chain) ≡ Ok (l ∷ reverse lines)
   pushed l r = rw (s.made, r) refl
@@ -205,13 +153,6 @@ module _ (rows : List Row) (w : ℕ) (wide : AreWide w rows) (chain : List ℕ) 
         state = push rows w wide (reverse chain) (reverse lines) found point at l next s under b r p (rw d at q);
         rises = rank-push (reverse chain) at;
       })
-
-pub told_strain : (rows : List Row) (w : ℕ) (old new : State) (chain : List ℕ) (at : Place) (wide : Wide) (r : Step) → IsStrained chain at wide r → IsStrainAt rows w (reverse chain) at wide → StepTells rows w old new r
-told_strain rows w old new chain at wide step.On i h = absurd i
-told_strain rows w old new chain at wide (step.Contradiction times) i h = absurd i
-told_strain rows w old new chain at wide (step.Strain s) i h =
-    subst (λ c. IsStrainAt rows w (reverse c) s.place s.wide) (sym i.0) (subst (λ p. IsStrainAt rows w (reverse chain) p s.wide) (sym i.1) (subst (λ e. IsStrainAt rows w (reverse chain) at e) (sym i.2) h))
-told_strain rows w old new chain at wide step.Memory i h = tt
 
 -- a row that was put on the chain
 pub told_push : (rows : List Row) (w : ℕ) (wide : AreWide w rows) (old new : State) (l : Line) (r : Step) → IsStateOf rows w old → old.at < length rows

@@ -1,9 +1,12 @@
--- What the descent answers: a point at which every row holds, a contradiction, a strain, or want of memory.
+-- What the descent answers: a point at which every row holds, a contradiction, a strain, or want of memory; and what
+-- comes of a chain that is given.
 use Rattle.std.specs.Prelude.{◌≡◌, ℕ, ℤ, List, length, reverse}
 use Rattle.hp_math.specs.Rational.{ℚ}
 use Rattle.hp_rows.specs.declared.row.Row.{Row}
 use Rattle.hp_rows.specs.declared.answer.Answer.{Answer}
 use Rattle.hp_rows.specs.declared.answer.Answer.TheVariants as answer
+use Rattle.hp_rows.specs.declared.answer.Located.{Located}
+use Rattle.hp_rows.specs.declared.answer.Located.TheVariants as located
 use Rattle.hp_rows.specs.Rows.{HoldsBelow, IsContradiction, AreNotNegative}
 use Rattle.hp_rows.specs.Points.{at_point, IsPointOf}
 use Rattle.hp_rows.specs.Strain.{IsStrain}
@@ -25,3 +28,10 @@ Answers rows w (answer.Point chain point) = IsPoint rows w chain point
 Answers rows w (answer.Contradiction times) = IsRefuted rows w times
 Answers rows w (answer.Strain s) = IsStrain rows w s
 Answers rows w answer.Memory = Unit {0}
+
+-- what comes of a chain, the first row of which is listed first: its point, or why it has none
+abbrev pub Locates : List Row → ℕ → List ℕ → Located → Type 0
+Locates rows w chain (located.Point point) = IsPointOf rows w (reverse chain) point
+Locates rows w chain (located.Contradiction times) = IsRefuted rows w times
+Locates rows w chain (located.Strain s) = IsStrain rows w s
+Locates rows w chain located.Memory = Unit {0}

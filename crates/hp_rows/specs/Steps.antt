@@ -8,7 +8,9 @@ use Rattle.hp_rows.specs.declared.answer.Strain.{Strain}
 use Rattle.hp_rows.specs.declared.descent.State.{State}
 use Rattle.hp_rows.specs.declared.descent.Step.{Step}
 use Rattle.hp_rows.specs.declared.descent.Step.TheVariants as step
-use Rattle.hp_rows.specs.Lines.{Line}
+use Rattle.hp_rows.specs.declared.chain.Next.{Next}
+use Rattle.hp_rows.specs.declared.chain.Next.TheVariants as next
+use Rattle.hp_rows.specs.Lines.{Line, line_of, pivot, reduce}
 use Rattle.hp_rows.specs.Points.{point_of}
 use Rattle.hp_rows.specs.Strain.{IsStrain}
 use Rattle.hp_rows.specs.Descent.{IsState, rank}
@@ -62,3 +64,10 @@ IsPushed w line old new step.On = HasPushed w line old new
 IsPushed w line old new (step.Contradiction times) = ⊥
 IsPushed w line old new (step.Strain s) = IsPushStrained w line old s
 IsPushed w line old new step.Memory = Unit {0}
+
+-- what the row after a chain comes to, the chain and its lines with the last row at the end
+abbrev pub IsNext : List Row → ℕ → List ℕ → List Line → ℕ → Next → Type 0
+IsNext rows w chain lines at (next.Line line) = (reduce (reverse lines) (line_of rows at) ≡ Ok line) × (pivot line < w)
+IsNext rows w chain lines at (next.Contradiction times) = IsRefuted rows w times
+IsNext rows w chain lines at (next.Strain s) = IsStrain rows w s
+IsNext rows w chain lines at next.Memory = Unit {0}

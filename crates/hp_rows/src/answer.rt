@@ -1,4 +1,4 @@
-//! What the descent answers.
+//! What the descent answers, and what comes of a chain.
 
 use hp_num::{Frac, List, Whole, Wide};
 
@@ -32,6 +32,20 @@ pub enum Answer {
         point: List<Frac>,
     },
     /// A multiplier for each row, none negative: the left sides add to nothing, and the bounds to less than 0.
+    Contradiction(List<Whole>),
+    /// A number on the way passes 2^127 - 1.
+    Strain(Strain),
+    /// Memory was wanting.
+    Memory,
+}
+
+/// What comes of a chain that is given.
+#[derive(Drop)]
+pub enum Located {
+    /// Its point, one fraction for each column.
+    Point(List<Frac>),
+    /// The chain has no point: a multiplier for each row, none negative, by which the left sides add to nothing, and the
+    /// bounds to less than 0.
     Contradiction(List<Whole>),
     /// A number on the way passes 2^127 - 1.
     Strain(Strain),

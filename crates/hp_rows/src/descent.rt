@@ -4,21 +4,21 @@
 //! the chain comes up itself, it holds as an equation and is taken off. The descent ends with a point at which every row
 //! was tested, or with a reduced row that has no coefficients, whose multipliers contradict the rows.
 
-ghost use Rattle.std.specs.Prelude.{◌≡◌, ◌<◌, ◌+◌, [], ◌∷◌, ◌++◌, length, reverse, drop, IfOk, false};
+ghost use Rattle.std.specs.Prelude.{◌≡◌, ◌<◌, [], ◌∷◌, ◌++◌, length, reverse, false};
 ghost use Rattle.hp_rows.specs.Rows.{AreWide, Breaks, row_at};
-ghost use Rattle.hp_rows.specs.Lines.{line_of, marks};
 ghost use Rattle.hp_rows.specs.Points.{at_point, PointFit};
 ghost use Rattle.hp_rows.specs.Told.{TestTells};
 ghost use Rattle.hp_rows.specs.Answers.{Answers};
 ghost use Rattle.hp_rows.specs.Steps.{IsPushed, IsStrained, IsStateOf, StepTells, first_is};
 
 use crate::answer::{Answer, Place, Strain};
+use crate::chain::{Next, copy_of, next_line, strain};
 use crate::coordinates::{left_side, point_of};
 use crate::fractions::is_over;
-use crate::line::{Fail, pivot, reduce};
+use crate::line::Fail;
 use crate::row::Row;
 use hp_num::{Frac, List, Whole, Wide};
-use std::alloc::{AllocError, Global};
+use std::alloc::Global;
 
 /// A chain with the reduced line of each of its rows, and the point of the chain `found`, which meets the rows of the
 /// chain as equations. The rows below `at` hold at the point.
@@ -103,24 +103,19 @@ fn extend(alloc: Global, width: usize, rows: &[Row], state: &mut State) -> Step
     requires broken { Breaks (row_at rows.now state.now.at) (at_point state.now.point) }
     ensures { StepTells rows.now width state.old state.new result }
 {
-    let row = match line_of(alloc, rows, state.at) {
-        Ok(row) => row,
-        Err(_) => return Step::Memory,
-    };
-    let line = match reduce(alloc, state.lines.as_slice(), row) {
-        Ok(line) => line,
-        Err(Fail::Wide(wide)) => {
-            return strained(alloc, state.chain.as_slice(), Place::Line(state.at), wide);
-        }
-        Err(Fail::Memory) => return Step::Memory,
-    };
-    if pivot(line.as_slice()) >= width {
-        return match times_of(alloc, width, line.as_slice()) {
-            Ok(times) => Step::Contradiction(times),
-            Err(_) => Step::Memory,
-        };
+    match next_line(
+        alloc,
+        width,
+        rows,
+        state.chain.as_slice(),
+        state.lines.as_slice(),
+        state.at,
+    ) {
+        Next::Line(line) => push(alloc, width, state, line),
+        Next::Contradiction(times) => Step::Contradiction(times),
+        Next::Strain(strain) => Step::Strain(strain),
+        Next::Memory => Step::Memory,
     }
-    push(alloc, width, state, line)
 }
 
 /// Puts row `at` with its reduced line on the chain, and moves to the point of that, where all rows are taken anew.
@@ -171,63 +166,12 @@ fn is_last(chain: &[usize], at: usize) -> bool
     }
 }
 
-/// The line of a row, before any elimination.
-fn line_of(alloc: Global, rows: &[Row], at: usize) -> Result<List<Whole>, AllocError>
-    requires { at < length rows.now }
-    ensures { IfOk result (λ line. line ≡ line_of rows.now at) }
-{
-    row_line(alloc, &rows[at], rows.len(), at)
-}
-
-/// The coefficients, the bound, and `count` multipliers, 1 at `at` and else 0.
-fn row_line(alloc: Global, row: &Row, count: usize, at: usize) -> Result<List<Whole>, AllocError>
-    ensures { IfOk result (λ line. line ≡ row.now.coefs ++ row.now.bound ∷ marks count at) }
-{
-    let mut line = List::new(alloc);
-    for coef in row.coefs.as_slice() {
-        line.push(*coef)?;
-    }
-    line.push(row.bound)?;
-    for other in 0..count {
-        line.push(if other == at {
-            Whole::new(1)
-        } else {
-            Whole::new(0)
-        })?;
-    }
-    Ok(line)
-}
-
-/// The multipliers of a line.
-fn times_of(alloc: Global, width: usize, line: &[Whole]) -> Result<List<Whole>, AllocError>
-    requires { width < length line.now }
-    ensures { IfOk result (λ times. times ≡ drop (width + 1) line.now) }
-{
-    let mut times = List::new(alloc);
-    let (_, rest) = line.split_at(width + 1);
-    for entry in rest {
-        times.push(*entry)?;
-    }
-    Ok(times)
-}
-
-/// The strain, on a copy of the chain.
+/// The strain as a step.
 fn strained(alloc: Global, chain: &[usize], place: Place, wide: Wide) -> Step
     ensures { IsStrained chain.now place wide result }
 {
-    match copy_of(alloc, chain) {
-        Ok(chain) => Step::Strain(Strain { chain, place, wide }),
+    match strain(alloc, chain, place, wide) {
+        Ok(strain) => Step::Strain(strain),
         Err(_) => Step::Memory,
     }
-}
-
-/// The same row numbers.
-fn copy_of(alloc: Global, chain: &[usize]) -> Result<List<usize>, AllocError>
-    ensures { IfOk result (λ copy. copy ≡ chain.now) }
-{
-    let mut copy = List::new(alloc);
-    for row in chain {
-        copy.push(*row)?;
-    }
-    Ok(copy)
 }

@@ -7,6 +7,7 @@
 ghost use Rattle.hp_rows.specs.Laws.{ChainIsPositive, ContradictionsRefute, PointsAreExact, PointsMeetChains};
 
 mod answer;
+mod chain;
 mod coordinates;
 mod descent;
 mod division;
@@ -16,8 +17,9 @@ mod row;
 #[cfg(test)]
 mod tests;
 
-pub use answer::{Answer, Place, Strain};
-pub use coordinates::values;
+pub use answer::{Answer, Located, Place, Strain};
+pub use chain::locate;
+pub use coordinates::{left_side, values};
 pub use descent::descend;
 pub use line::Fail;
 pub use row::{Row, are_wide};

@@ -1,6 +1,6 @@
 use Rattle.std.proofs.Common.{◌≡◌, take, ◌++◌, ◌∷◌}
 use Rattle.hp_rows.specs.Lines.{marks}
-use Rattle.hp_rows.proofs.descent.row_line.Given as goal
+use Rattle.hp_rows.proofs.chain.row_line.Given as goal
 
 abbrev pub invariant-loop-coef : goal.invariant-loop-coef
 invariant-loop-coef l = l.line ≡ take l.coef-index l.row.coefs
