@@ -2,9 +2,9 @@
 
 use hp_num::{Frac, List, Whole, Wide};
 
-/// Where a number passes: as a chain is eliminated from the row of this number, counted from 0; as the point of a chain
-/// is computed; as this row's left side is summed at the point of a chain; or as a coordinate of the point of a chain is
-/// divided by the last one, where every row holds.
+/// Where a number passes: as a chain is eliminated from the row of this number, counted from 0; as the point of a
+/// chain is computed; as this row's left side is summed at the point of a chain; or as a coordinate of the point of a
+/// chain is divided by the last one, where every row holds.
 #[derive(Clone, Copy)]
 pub enum Place {
     Line(usize),
@@ -13,8 +13,8 @@ pub enum Place {
     Value,
 }
 
-/// The first number that passes 2^127 - 1 over this chain, which lists row numbers from 0 in the order of the chain, with
-/// the operation that made it.
+/// The first number that passes 2^127 - 1 over this chain, with the operation that made it. The chain lists row numbers
+/// from 0 in the order in which the rows are taken as equations.
 #[derive(Drop)]
 pub struct Strain {
     pub chain: List<usize>,
@@ -44,8 +44,8 @@ pub enum Answer {
 pub enum Located {
     /// Its point, one fraction for each column.
     Point(List<Frac>),
-    /// The chain has no point: a multiplier for each row, none negative, by which the left sides add to nothing, and the
-    /// bounds to less than 0.
+    /// The chain has no point: a multiplier for each row, none negative, by which the left sides add to nothing, and
+    /// the bounds to less than 0.
     Contradiction(List<Whole>),
     /// A number on the way passes 2^127 - 1.
     Strain(Strain),

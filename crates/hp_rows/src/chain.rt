@@ -1,6 +1,7 @@
 //! The rows of a chain, each reduced by the lines of those before it, and the point of a chain that is given.
 //!
-//! A chain lists row numbers from 0 in the order in which the rows are taken as equations; its lines have the same order.
+//! A chain lists row numbers from 0 in the order in which the rows are taken as equations, and its lines have the same
+//! order.
 
 ghost use Rattle.std.specs.Prelude.{◌≡◌, ◌<◌, ◌+◌, ◌∷◌, ◌++◌, Ok, length, reverse, drop, IfOk};
 ghost use Rattle.hp_rows.specs.Rows.{AreWide, IsChain};

@@ -52,8 +52,8 @@ pub fn left_side(coefs: &[Whole], point: &[Frac]) -> Result<Frac, Wide>
     Ok(total)
 }
 
-/// The point of the lines of a chain, the first of which stands first: 0 at columns without a pivot, the others from the
-/// last line to the first.
+/// The point of the lines of a chain, the first of which stands first: 0 at columns without a pivot, the others from
+/// the last line to the first.
 pub fn point_of(alloc: Global, width: usize, lines: &[List<Whole>]) -> Result<List<Frac>, Fail>
     requires { PointFit width lines.now }
     ensures { Tells result (point_of width (reverse lines.now)) }

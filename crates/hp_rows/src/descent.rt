@@ -1,8 +1,8 @@
 //! Dimension descent: the chain is a stack of rows that are taken as equations, and the rows are tested at its point.
 //!
 //! A row that the point breaks is put on the chain, and the rows are taken anew at the new point; where the last row of
-//! the chain comes up itself, it holds as an equation and is taken off. The descent ends with a point at which every row
-//! was tested, or with a reduced row that has no coefficients, whose multipliers contradict the rows.
+//! the chain comes up itself, it holds as an equation and is taken off. The descent ends with a point at which every
+//! row was tested, or with a reduced row that has no coefficients, whose multipliers contradict the rows.
 
 ghost use Rattle.std.specs.Prelude.{◌≡◌, ◌<◌, [], ◌∷◌, ◌++◌, length, reverse, false};
 ghost use Rattle.hp_rows.specs.Rows.{AreWide, Breaks, row_at};

@@ -1,7 +1,7 @@
 //! What `descend` answers with ample memory to rows whose answers are known by hand.
 
-use crate::{Answer, Place, Row, Strain, are_wide, descend};
-use hp_num::{List, Op, Whole, Wide};
+use crate::{Answer, Located, Place, Row, Strain, are_wide, descend, locate, values};
+use hp_num::{Frac, List, Op, Whole, Wide};
 use std::alloc::{AllocError, Global};
 use std::test::Fail;
 
@@ -37,6 +37,31 @@ fn asked(alloc: Global, width: usize, sides: &[Sides]) -> Answer {
     match rows_of(alloc, sides) {
         Ok(rows) if are_wide(width, rows.as_slice()) => descend(alloc, width, rows.as_slice()),
         _ => Answer::Memory,
+    }
+}
+
+/// Whether the rows have a point, and its chain has that point.
+fn is_found_again(alloc: Global, width: usize, rows: &[Row]) -> bool {
+    if !are_wide(width, rows) {
+        return false;
+    }
+    match descend(alloc, width, rows) {
+        Answer::Point { chain, point } => match locate(alloc, width, rows, chain.as_slice()) {
+            Located::Point(again) => again.as_slice() == point.as_slice(),
+            _ => false,
+        },
+        _ => false,
+    }
+}
+
+/// The values that a point gives, none where it has no scale.
+fn scaled(alloc: Global, point: &[Frac]) -> List<Frac> {
+    if point.len() == 0 || point[point.len() - 1].is_zero() {
+        return List::new(alloc);
+    }
+    match values(alloc, point) {
+        Ok(values) => values,
+        Err(_) => List::new(alloc),
     }
 }
 
@@ -87,7 +112,28 @@ fn points_come_with_their_chain(rt: HostRuntime) -> Result<(), Fail> {
 }
 
 #[test]
-fn numbers_that_pass_are_named(rt: HostRuntime) {
+fn chains_have_their_points_again(rt: HostRuntime) -> Result<(), Fail> {
+    let rows = rows_of(
+        rt.alloc(),
+        &[(&[0, 0, -1], -1), (&[2, -3, 0], -1), (&[-1, 1, 1], 0)],
+    )?;
+    assert!(rt; is_found_again(rt.alloc(), 3, rows.as_slice()));
+    Ok(())
+}
+
+#[test]
+fn values_are_coordinates_over_the_last(rt: HostRuntime) {
+    let point = [Frac::new(1, 2), Frac::new(-3, 1), Frac::new(2, 1)];
+    let values = scaled(rt.alloc(), &point);
+    assert_eq!(rt;
+        values.as_slice(),
+        [Frac::new(1, 4), Frac::new(-3, 2)].as_slice()
+    );
+}
+
+#[test]
+fn eliminations_that_pass_are_named(rt: HostRuntime) {
+    // 2^100 x + y <= -2 and (1 - 2^100) x + 2^100 y <= -1: the second is eliminated from the first
     match asked(rt.alloc(), 2, &[(&[LONG, 1], -2), (&[1 - LONG, LONG], -1)]) {
         Answer::Strain(
             Strain {
@@ -108,6 +154,11 @@ fn numbers_that_pass_are_named(rt: HostRuntime) {
         }
         _ => assert!(rt; false),
     }
+}
+
+#[test]
+fn sums_that_pass_are_named(rt: HostRuntime) {
+    // -2^100 x <= -1, -(2^100 + 1) y <= -1 and x + y <= 5: at x = 1/2^100 and y = 1/(2^100 + 1)
     match asked(
         rt.alloc(),
         2,
