@@ -12,3 +12,4 @@ mod Moves
 mod Chains
 mod Steps
 mod Sums
+mod Valuations

@@ -12,7 +12,7 @@ use Rattle.hp_rows.proofs.Clearing.{bound}
 use Rattle.hp_rows.proofs.Number.{mul_gave, add_gave}
 use Rattle.hp_rows.proofs.Lines.{zero_plus}
 
-left_gave : (sum : ℚ) (cs : List ℤ) (xs : List ℚ) (s : ℚ) → length cs ≡ length xs → left_of sum cs xs ≡ Ok s → s ≡ sum +ℚ dot cs (at_point xs)
+pub left_gave : (sum : ℚ) (cs : List ℤ) (xs : List ℚ) (s : ℚ) → length cs ≡ length xs → left_of sum cs xs ≡ Ok s → s ≡ sum +ℚ dot cs (at_point xs)
 left_gave sum [] [] s l h = (let e : s ≡ sum = cc in e ∙ sym (+ℚ_zero sum))
 left_gave sum [] (x ∷ xs) s l h = absurd (omega arith)
 left_gave sum (c ∷ cs) [] s l h = absurd (omega arith)
