@@ -1,0 +1,15 @@
+mod Dot
+mod Positive
+mod Lines
+mod Clearing
+mod Start
+mod Contradiction
+mod Number
+mod Point
+mod Exact
+mod Refute
+mod Moves
+mod Chains
+mod Steps
+mod Sums
+mod Valuations

@@ -1,0 +1,12 @@
+pub mod Rows
+pub mod Laws
+pub mod Arithmetic
+pub mod Lines
+pub mod Points
+pub mod Exact
+pub mod Strain
+pub mod Answers
+pub mod Valuation
+pub mod Descent
+pub mod Told
+pub mod Steps
