@@ -1,0 +1,6 @@
+pub mod Rising
+pub mod Names
+pub mod Least
+pub mod Exact
+pub mod Loops
+pub mod Verdict
