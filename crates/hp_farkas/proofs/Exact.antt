@@ -9,7 +9,7 @@ use Rattle.hp_num.proofs.Bits.{times_gave, plus_gave}
 use Rattle.hp_base.specs.declared.literal.Part.{Part}
 use Rattle.hp_base.specs.Leaf.{coefficient, Taken, sum_coefficient, sum_bound}
 use Rattle.hp_farkas.specs.Sums.{add_product, add_parts, sum_from, bound_from}
-use Rattle.hp_farkas.proofs.Names.{HasPart, Occurs}
+use Rattle.hp_farkas.specs.Names.{HasName, Occurs}
 
 -- ---- a step that was not refused has a result, from which the rest went on
 pub record Went (A B : Type 0) (r : Result A Wide) (f : A → Result B Wide) (y : B) : Type 0 where
@@ -55,7 +55,7 @@ sum_exact n s r (t ∷ ts) h =
     added s w.value r (t.times *ℤ coefficient n t.lit.parts) (sum_coefficient n ts) (parts_exact n t.times s w.value t.lit.parts w.first) (sum_exact n w.value r ts w.rest)
 
 -- a name that does not occur adds nothing
-no_part : (n : ℕ) (ps : List Part) → (HasPart n ps → ⊥) → coefficient n ps ≡ pos 0
+pub no_part : (n : ℕ) (ps : List Part) → (HasName n ps → ⊥) → coefficient n ps ≡ pos 0
 no_part n [] h = refl
 no_part n (p ∷ ps) h =
     (elim (nat_eq p.name.0 n) as (λ b. nat_eq p.name.0 n ≡ b → cond b p.coef (pos 0) +ℤ coefficient n ps ≡ pos 0) [

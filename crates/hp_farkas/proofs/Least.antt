@@ -5,7 +5,7 @@ use Rattle.hp_base.specs.declared.literal.Name.{Name}
 use Rattle.hp_base.specs.declared.literal.Part.{Part}
 use Rattle.hp_base.specs.Leaf.{Taken}
 use Rattle.hp_farkas.specs.Next.{lower, lesser, least_part, least_name}
-use Rattle.hp_farkas.proofs.Names.{HasPart, Occurs}
+use Rattle.hp_farkas.specs.Names.{HasName, Occurs}
 
 -- the least number of a set from a number on
 abbrev pub IsLeast : (P : ℕ → Type 0) → ℕ → Option Name → Type 0
@@ -60,22 +60,22 @@ lesser_least P from n o h =
     ]) refl
 
 -- ---- a set with the names of parts, and of the literals taken
-part_least : (P : ℕ → Type 0) (from : ℕ) (o : Option Name) (ps : List Part) → IsLeast P from o → IsLeast (λ k. P k ⊎ HasPart k ps) from (least_part from o ps)
-part_least P from o [] h = same_set P (λ k. P k ⊎ HasPart k []) from o (λ k p. inl p) go h
+part_least : (P : ℕ → Type 0) (from : ℕ) (o : Option Name) (ps : List Part) → IsLeast P from o → IsLeast (λ k. P k ⊎ HasName k ps) from (least_part from o ps)
+part_least P from o [] h = same_set P (λ k. P k ⊎ HasName k []) from o (λ k p. inl p) go h
   where
-    go : (k : ℕ) → P k ⊎ HasPart k [] → P k
+    go : (k : ℕ) → P k ⊎ HasName k [] → P k
     go k (inl p) = p
     go k (inr q) = absurd q
 part_least P from o (p ∷ ps) h =
-    same_set (λ k. With P p.name.0 k ⊎ HasPart k ps) (λ k. P k ⊎ HasPart k (p ∷ ps)) from (least_part from (lesser from o p.name) ps) out back
+    same_set (λ k. With P p.name.0 k ⊎ HasName k ps) (λ k. P k ⊎ HasName k (p ∷ ps)) from (least_part from (lesser from o p.name) ps) out back
     (part_least (With P p.name.0) from (lesser from o p.name) ps (lesser_least P from p.name o h))
   where
-    out : (k : ℕ) → With P p.name.0 k ⊎ HasPart k ps → P k ⊎ HasPart k (p ∷ ps)
+    out : (k : ℕ) → With P p.name.0 k ⊎ HasName k ps → P k ⊎ HasName k (p ∷ ps)
     out k (inl (inl x)) = inl x
     out k (inl (inr e)) = inr (inl e)
     out k (inr q) = inr (inr q)
 
-    back : (k : ℕ) → P k ⊎ HasPart k (p ∷ ps) → With P p.name.0 k ⊎ HasPart k ps
+    back : (k : ℕ) → P k ⊎ HasName k (p ∷ ps) → With P p.name.0 k ⊎ HasName k ps
     back k (inl x) = inl (inl x)
     back k (inr (inl e)) = inl (inr e)
     back k (inr (inr q)) = inr q
@@ -87,15 +87,15 @@ taken_least P from o [] h = same_set P (λ k. P k ⊎ Occurs k []) from o (λ k 
     go k (inl p) = p
     go k (inr q) = absurd q
 taken_least P from o (t ∷ ts) h =
-    same_set (λ k. (P k ⊎ HasPart k t.lit.parts) ⊎ Occurs k ts) (λ k. P k ⊎ Occurs k (t ∷ ts)) from (least_name from (least_part from o t.lit.parts) ts) out back
-    (taken_least (λ k. P k ⊎ HasPart k t.lit.parts) from (least_part from o t.lit.parts) ts (part_least P from o t.lit.parts h))
+    same_set (λ k. (P k ⊎ HasName k t.lit.parts) ⊎ Occurs k ts) (λ k. P k ⊎ Occurs k (t ∷ ts)) from (least_name from (least_part from o t.lit.parts) ts) out back
+    (taken_least (λ k. P k ⊎ HasName k t.lit.parts) from (least_part from o t.lit.parts) ts (part_least P from o t.lit.parts h))
   where
-    out : (k : ℕ) → (P k ⊎ HasPart k t.lit.parts) ⊎ Occurs k ts → P k ⊎ Occurs k (t ∷ ts)
+    out : (k : ℕ) → (P k ⊎ HasName k t.lit.parts) ⊎ Occurs k ts → P k ⊎ Occurs k (t ∷ ts)
     out k (inl (inl x)) = inl x
     out k (inl (inr e)) = inr (inl e)
     out k (inr q) = inr (inr q)
 
-    back : (k : ℕ) → P k ⊎ Occurs k (t ∷ ts) → (P k ⊎ HasPart k t.lit.parts) ⊎ Occurs k ts
+    back : (k : ℕ) → P k ⊎ Occurs k (t ∷ ts) → (P k ⊎ HasName k t.lit.parts) ⊎ Occurs k ts
     back k (inl x) = inl (inl x)
     back k (inr (inl e)) = inl (inr e)
     back k (inr (inr q)) = inr q

@@ -37,18 +37,22 @@ left path shares i d h rest a = go rest (subst (λ q. AreTaken path q rest) (dro
     go [] a = absurd a
     go (t ∷ ts) a = record { first = t; others = ts; is = refl; is_taken = a.0; are_taken = a.1 }
 
--- ---- a sum made share by share
+-- ---- a sum made share by share, of which y is the end, z the number so far and v the next one
 module _ (F : ℤ → Taken → Result ℤ Wide) (G : ℤ → List Taken → Result ℤ Wide) (step : (s : ℤ) (t : Taken) (ts : List Taken) → G s (t ∷ ts) ≡ (F s t >>= (λ u. G u ts)))
-    (path : List Lit) (shares : List Share) (i : ℕ) (d : Share) (s : ℤ) (h : i < length shares) (rest : List Taken) (a : AreTaken path (drop i shares) rest) where
-  pub sum_err : (w : Wide) → ((t : Taken) → IsTaken path (get_or shares i d) t → Err w ≡ F s t) → Err w ≡ G s rest
-  sum_err w e =
-      let l = left path shares i d h rest a in
-      ap (λ r. r >>= (λ u. G u l.others)) (e l.first l.is_taken) ∙ sym (step s l.first l.others) ∙ ap (λ q. G s q) (sym l.is)
+    (path : List Lit) (shares : List Share) (i : ℕ) (d : Share) (s : ℤ) (h : i < length shares)
+    (y : Result ℤ Wide) (rest : (rest : List Taken) × AreTaken path (drop i shares) rest × (y ≡ G s rest)) where
+  pub sum_err : (z : ℤ) → s ≡ z → (r : Result ℤ Wide) (w : Wide) → r ≡ Err w → ((t : Taken) → IsTaken path (get_or shares i d) t → r ≡ F z t) → Err w ≡ y
+  sum_err z q r w k e =
+      let l = left path shares i d h rest.0 rest.1 in
+      let f : Err w ≡ F s l.first = sym k ∙ e l.first l.is_taken ∙ ap (λ x. F x l.first) (sym q) in
+      ap (λ r. r >>= (λ u. G u l.others)) f ∙ sym (step s l.first l.others) ∙ ap (λ q. G s q) (sym l.is) ∙ sym rest.2
 
-  pub sum_ok : (u : ℤ) → ((t : Taken) → IsTaken path (get_or shares i d) t → Ok u ≡ F s t) → (more : List Taken) × AreTaken path (drop (i + 1) shares) more × (G s rest ≡ G u more)
-  sum_ok u e =
-      let l = left path shares i d h rest a in
-      (l.others, l.are_taken, ap (λ q. G s q) l.is ∙ step s l.first l.others ∙ ap (λ r. r >>= (λ v. G v l.others)) (sym (e l.first l.is_taken)))
+  pub sum_ok : (z : ℤ) → s ≡ z → (r : Result ℤ Wide) (u v : ℤ) → u ≡ v → r ≡ Ok u → ((t : Taken) → IsTaken path (get_or shares i d) t → r ≡ F z t)
+      → (more : List Taken) × AreTaken path (drop (i + 1) shares) more × (y ≡ G v more)
+  sum_ok z q r u v n k e =
+      let l = left path shares i d h rest.0 rest.1 in
+      let f : F s l.first ≡ Ok v = ap (λ x. F x l.first) q ∙ sym (e l.first l.is_taken) ∙ k ∙ ap (λ x. Ok x) n in
+      (l.others, l.are_taken, rest.2 ∙ ap (λ q. G s q) l.is ∙ step s l.first l.others ∙ ap (λ r. r >>= (λ x. G x l.others)) f)
 
 -- ---- a sum made part by part
 module _ (n : ℕ) (m s : ℤ) (parts : List Part) (i : ℕ) (d : Part) (h : i < length parts) where

@@ -3,24 +3,7 @@ use Rattle.std.proofs.Common.{◌≡◌, ℕ, ◌+◌, ◌≤◌, ◌⊎◌, inl
 use Rattle.std.proofs.lemmas.Bool.{ltb-true, ltb-false, cases_eq}
 use Rattle.hp_base.specs.declared.literal.Part.{Part}
 use Rattle.hp_base.specs.Leaf.{Taken}
-use Rattle.hp_farkas.specs.Names.{insert, with_names, names_of}
-
-abbrev pub HasPart : ℕ → List Part → Type 0
-HasPart n [] = ⊥
-HasPart n (p ∷ ps) = (p.name.0 ≡ n) ⊎ HasPart n ps
-
-abbrev pub Occurs : ℕ → List Taken → Type 0
-Occurs n [] = ⊥
-Occurs n (t ∷ ts) = HasPart n t.lit.parts ⊎ Occurs n ts
-
-abbrev pub IsIn : ℕ → List ℕ → Type 0
-IsIn n [] = ⊥
-IsIn n (m ∷ ms) = (m ≡ n) ⊎ IsIn n ms
-
--- the numbers rise strictly, from n on
-abbrev pub RisesFrom : ℕ → List ℕ → Type 0
-RisesFrom n [] = Unit {0}
-RisesFrom n (m ∷ ms) = (n ≤ m) × RisesFrom (m + 1) ms
+use Rattle.hp_farkas.specs.Names.{HasName, insert, IsIn, names_of, NamesInOrder, Occurs, RisesFrom, with_names}
 
 -- ---- a number put in its place
 insert_rises : (f n : ℕ) (ns : List ℕ) → f ≤ n → RisesFrom f ns → RisesFrom f (insert n ns)
@@ -84,22 +67,22 @@ parts_rise : (ps : List Part) (ns : List ℕ) → RisesFrom 0 ns → RisesFrom 0
 parts_rise [] ns r = r
 parts_rise (p ∷ ps) ns r = insert_rises 0 p.name.0 (with_names ps ns) (omega arith) (parts_rise ps ns r)
 
-in_parts : (k : ℕ) (ps : List Part) (ns : List ℕ) → HasPart k ps ⊎ IsIn k ns → IsIn k (with_names ps ns)
+in_parts : (k : ℕ) (ps : List Part) (ns : List ℕ) → HasName k ps ⊎ IsIn k ns → IsIn k (with_names ps ns)
 in_parts k [] ns (inl h) = absurd h
 in_parts k [] ns (inr q) = q
 in_parts k (p ∷ ps) ns (inl (inl e)) = in_insert k p.name.0 (with_names ps ns) (inl e)
 in_parts k (p ∷ ps) ns (inl (inr h)) = in_insert k p.name.0 (with_names ps ns) (inr (in_parts k ps ns (inl h)))
 in_parts k (p ∷ ps) ns (inr q) = in_insert k p.name.0 (with_names ps ns) (inr (in_parts k ps ns (inr q)))
 
-parts_in : (k : ℕ) (ps : List Part) (ns : List ℕ) → IsIn k (with_names ps ns) → HasPart k ps ⊎ IsIn k ns
+parts_in : (k : ℕ) (ps : List Part) (ns : List ℕ) → IsIn k (with_names ps ns) → HasName k ps ⊎ IsIn k ns
 parts_in k [] ns q = inr q
 parts_in k (p ∷ ps) ns q = first (λ j. parts_in k ps ns j) (insert_in k p.name.0 (with_names ps ns) q)
   where
-    later : HasPart k ps ⊎ IsIn k ns → ((p.name.0 ≡ k) ⊎ HasPart k ps) ⊎ IsIn k ns
+    later : HasName k ps ⊎ IsIn k ns → ((p.name.0 ≡ k) ⊎ HasName k ps) ⊎ IsIn k ns
     later (inl h) = inl (inr h)
     later (inr q) = inr q
 
-    first : (IsIn k (with_names ps ns) → HasPart k ps ⊎ IsIn k ns) → (p.name.0 ≡ k) ⊎ IsIn k (with_names ps ns) → ((p.name.0 ≡ k) ⊎ HasPart k ps) ⊎ IsIn k ns
+    first : (IsIn k (with_names ps ns) → HasName k ps ⊎ IsIn k ns) → (p.name.0 ≡ k) ⊎ IsIn k (with_names ps ns) → ((p.name.0 ≡ k) ⊎ HasName k ps) ⊎ IsIn k ns
     first f (inl e) = inl (inl e)
     first f (inr q) = later (f q)
 
@@ -116,9 +99,12 @@ pub names_in : (k : ℕ) (ts : List Taken) → IsIn k (names_of ts) → Occurs k
 names_in k [] h = h
 names_in k (t ∷ ts) h = go (λ j. names_in k ts j) (parts_in k t.lit.parts (names_of ts) h)
   where
-    go : (IsIn k (names_of ts) → Occurs k ts) → HasPart k t.lit.parts ⊎ IsIn k (names_of ts) → HasPart k t.lit.parts ⊎ Occurs k ts
+    go : (IsIn k (names_of ts) → Occurs k ts) → HasName k t.lit.parts ⊎ IsIn k (names_of ts) → HasName k t.lit.parts ⊎ Occurs k ts
     go f (inl h) = inl h
     go f (inr q) = inr (f q)
+
+pub names_in_order : NamesInOrder
+names_in_order = record { rise = names_rise; occur = λ ts n. (names_in n ts, in_names n ts) }
 
 pub is_in : (k : ℕ) (ns : List ℕ) → IsIn k ns ⊎ (IsIn k ns → ⊥)
 is_in k [] = inr (λ h. h)

@@ -12,10 +12,10 @@ use Rattle.hp_base.specs.declared.literal.Lit.{Lit}
 use Rattle.hp_base.specs.declared.proof.Share.{Share}
 use Rattle.hp_base.specs.Leaf.{Taken, AreTaken, sum_coefficient, sum_bound, HasStrict, IsValidNum}
 use Rattle.hp_farkas.specs.Form.{IsCombination}
-use Rattle.hp_farkas.specs.Names.{names_of}
+use Rattle.hp_farkas.specs.Names.{IsIn, names_of}
 use Rattle.hp_farkas.specs.Sums.{sum_from, bound_from}
 use Rattle.hp_farkas.specs.Check.{vanish, is_less, has_strict, is_refuted, answer_of, IsChecked}
-use Rattle.hp_farkas.proofs.Names.{IsIn, in_names, is_in}
+use Rattle.hp_farkas.proofs.Names.{in_names, is_in}
 use Rattle.hp_farkas.proofs.Exact.{went, sum_exact, no_name, bound_exact}
 
 is_zero : (a : ℤ) → int_eq a (pos 0) ≡ true → a ≡ pos 0

@@ -3,9 +3,9 @@ use Rattle.std.specs.Int.{w128}
 use Rattle.std.specs.Ordering.{int_eq}
 use Rattle.std.proofs.lemmas.Int.{ints}
 use Rattle.std.proofs.lemmas.Result.{err_from_is_err_and}
-use Rattle.hp_farkas.specs.Names.{names_of}
+use Rattle.hp_farkas.specs.Names.{names_of, Occurs}
 use Rattle.hp_farkas.specs.Check.{vanish}
-use Rattle.hp_farkas.proofs.Names.{Occurs, all_names, none_left, next_name}
+use Rattle.hp_farkas.proofs.Names.{all_names, none_left, next_name}
 use Rattle.hp_farkas.proofs.Least.{IsLeast, name_least}
 use Rattle.hp_farkas.proofs.Loops.{onward, onward_begin, onward_end, onward_ok, onward_err}
 use Rattle.hp_farkas.proofs.check.names_vanish.Goals as goal
