@@ -163,9 +163,11 @@ fn refusals_come_in_order(rt: HostRuntime) -> Result<(), Fail> {
 #[test]
 fn limits_are_told(rt: HostRuntime) -> Result<(), Fail> {
     let mut blanks = Vec::new(rt.alloc());
-    for _at in 0..1_048_577 {
+    for _at in 0..1_048_576 {
         blanks.push(b' ')?;
     }
+    let mut too_long = blanks.clone()?;
+    too_long.push(b' ')?;
     let mut constants = b"const c".to_vec(rt.alloc())?;
     for at in 0..4_000 {
         let name = format!(in rt.alloc(); ", c{at}")?;
@@ -179,8 +181,8 @@ fn limits_are_told(rt: HostRuntime) -> Result<(), Fail> {
         queries.extend_from_slice(b"query false;")?;
     }
     let table: [(&[u8], u8, &[u8]); 5] = [
-        (blanks.as_slice(), 8, b"limit bytes 1048576\n"),
-        (&blanks[1..], 10, b"satisfiable\nuniverse 1\n"),
+        (too_long.as_slice(), 8, b"limit bytes 1048576\n"),
+        (blanks.as_slice(), 10, b"satisfiable\nuniverse 1\n"),
         (constants.as_slice(), 8, b"limit names 4000\n"),
         (fractions.as_slice(), 13, b"not built\n"),
         (queries.as_slice(), 8, b"limit clauses 2000\n"),
