@@ -11,6 +11,7 @@ use crate::stop::Stop;
 use crate::symbol::same;
 use hp_ast::Term;
 use hp_text::Kind;
+use sqlite_items::Boxed;
 use std::alloc::Global;
 
 /// A term that is read: what stands in the innermost parenthesis, and the open ones.
@@ -20,7 +21,7 @@ pub struct TermState {
     pub frames: Stack<Frame>,
 }
 
-fn shut(term: Term, mut frames: Stack<Frame>) -> Result<TermState, Stop>
+fn shut(alloc: Global, term: Boxed<Term>, mut frames: Stack<Frame>) -> Result<TermState, Stop>
     ensures { Gives (λ s. (s.mode, s.frames)) result (close term frames) }
 {
     match frames.pop() {
@@ -30,21 +31,22 @@ fn shut(term: Term, mut frames: Stack<Frame>) -> Result<TermState, Stop>
             frames,
         }),
         Some(Frame::Call(front, number, func, mut args)) => {
-            args.push(term)?;
+            args.push(term.into_inner())?;
+            let call = call_term(alloc, func, args)?;
             Ok(TermState {
-                mode: Mode::Done(front, number, call_term(func, args)),
+                mode: Mode::Done(front, number, call),
                 frames,
             })
         }
     }
 }
 
-fn next(term: Term, mut frames: Stack<Frame>) -> Result<TermState, Stop>
+fn next(term: Boxed<Term>, mut frames: Stack<Frame>) -> Result<TermState, Stop>
     ensures { Gives (λ s. (s.mode, s.frames)) result (next_argument term frames) }
 {
     match frames.pop() {
         Some(Frame::Call(front, number, func, mut args)) => {
-            args.push(term)?;
+            args.push(term.into_inner())?;
             frames.push(Frame::Call(front, number, func, args))?;
             Ok(TermState {
                 mode: Mode::Part(Front::Nothing),
@@ -78,10 +80,10 @@ fn minus_sign(alloc: Global, state: TermState) -> Result<TermState, Stop>
 }
 
 #[tactic(auto, unfolding(crate::specs::Machine::star_goes))]
-fn star_sign(state: TermState) -> Result<TermState, Stop>
+fn star_sign(alloc: Global, state: TermState) -> Result<TermState, Stop>
     ensures { Gives (λ s. (s.mode, s.frames)) result (star_goes state.mode state.frames) }
 {
-    let mode = state.mode.star()?;
+    let mode = state.mode.star(alloc)?;
     Ok(TermState {
         mode,
         frames: state.frames,
@@ -100,10 +102,10 @@ fn slash_sign(state: TermState) -> Result<TermState, Stop>
 }
 
 #[tactic(auto, unfolding(crate::specs::Machine::null_goes))]
-fn null_word(state: TermState) -> Result<TermState, Stop>
+fn null_word(alloc: Global, state: TermState) -> Result<TermState, Stop>
     ensures { Gives (λ s. (s.mode, s.frames)) result (null_goes state.mode state.frames) }
 {
-    let mode = state.mode.null()?;
+    let mode = state.mode.null(alloc)?;
     Ok(TermState {
         mode,
         frames: state.frames,
@@ -128,7 +130,7 @@ fn close_sign(alloc: Global, state: TermState) -> Result<TermState, Stop>
     ensures { Gives (λ s. (s.mode, s.frames)) result (close_goes state.mode state.frames) }
 {
     let term = state.mode.end(alloc)?;
-    shut(term, state.frames)
+    shut(alloc, term, state.frames)
 }
 
 #[tactic(auto, unfolding(crate::specs::Machine::comma_goes))]
@@ -159,7 +161,7 @@ fn factor_word(alloc: Global, kind: Kind, state: TermState) -> Result<TermState,
     ensures { Gives (λ s. (s.mode, s.frames)) result (factor_goes kind state.mode state.frames) }
 {
     if same(kind, Kind::Null) {
-        null_word(state)
+        null_word(alloc, state)
     } else if same(kind, Kind::OpenRound) {
         open_sign(alloc, state)
     } else {
@@ -173,7 +175,7 @@ fn number_word(alloc: Global, kind: Kind, state: TermState) -> Result<TermState,
     ensures { Gives (λ s. (s.mode, s.frames)) result (number_goes kind state.mode state.frames) }
 {
     if same(kind, Kind::Star) {
-        star_sign(state)
+        star_sign(alloc, state)
     } else if same(kind, Kind::Slash) {
         slash_sign(state)
     } else {
