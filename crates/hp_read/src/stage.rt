@@ -298,7 +298,8 @@ fn in_body(
 }
 
 impl Stage {
-    /// The text behind one more token.
+    /// The text behind one more token. Its many locals are kept out of the frames of its callers.
+    #[inline(never)]
     fn turn(self, alloc: Global, made: &mut Problem, symbol: Symbol) -> Result<Stage, Stop>
         ensures { Gives (λ s. at made.new s) result (stage_step made.old self symbol) }
     {
@@ -315,15 +316,30 @@ impl Stage {
         }
     }
 
-    /// The text goes behind one more token. A body goes on in its place, since it is too large to be moved at each token.
-    #[tactic(auto, unfolding(crate::specs::Top::body_stage))]
+    /// The text goes behind one more token. What comes most goes on in its place, since a stage is too large to be moved at each token.
+    #[tactic(auto, unfolding(crate::specs::Top::body_stage, crate::specs::Top::variables_stage))]
     fn step(&mut self, alloc: Global, made: &mut Problem, symbol: Symbol) -> Result<(), Stop>
         ensures { Moves (at made.new self.new) result (stage_step made.old self.old symbol) }
     {
-        if let Stage::Body(_query, _vars, body) = self {
-            if !ends_with(&symbol, Kind::Semicolon) {
-                return body.step(alloc, symbol);
+        match self {
+            Stage::Body(_query, _vars, body) => {
+                if !ends_with(&symbol, Kind::Semicolon) {
+                    return body.step(alloc, symbol);
+                }
             }
+            Stage::Variables(variables) => {
+                if !ends_with(&symbol, Kind::CloseSquare) {
+                    let behind = mem::replace(variables, Variables::First).step(alloc, symbol)?;
+                    *variables = behind;
+                    return Ok(());
+                }
+            }
+            Stage::Whole => {
+                let stage = whole(alloc, made, symbol)?;
+                *self = stage;
+                return Ok(());
+            }
+            _ => {}
         }
         let stage = mem::replace(self, Stage::Whole);
         let stage = stage.turn(alloc, made, symbol)?;
