@@ -2,6 +2,7 @@ pub mod Token
 pub mod Tree
 pub mod Grammar
 pub mod Machine
+pub mod Moves
 pub mod Counts
 pub mod Faults
 pub mod Given

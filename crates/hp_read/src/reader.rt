@@ -1,7 +1,7 @@
 //! The reader of problems: one token after another, with the limits counted beside.
 //! What bytes spell, and what their fault is, `specs/Spells.antt` says.
 
-ghost use Rattle.std.specs.Prelude.{Ok, Err, ◌≡◌, ◌≢◌, ◌⊎◌, IfOk, IfErr};
+ghost use Rattle.std.specs.Prelude.{Ok, Err, ◌≡◌, ◌≢◌, ◌⊎◌, IfOk, IfErr, OnOk};
 ghost use Rattle.hp_text.specs.Tokens.{next_from};
 ghost use Rattle.hp_text.specs.Placed.{IsPlaced};
 ghost use Rattle.hp_text.specs.declared.token.Kind.TheVariants.{End};
@@ -59,18 +59,18 @@ fn read_tokens(alloc: Global, bytes: &[u8]) -> Result<Problem, ReadErr>
         if token.kind == Kind::End {
             return finish(bytes, reading, token);
         }
-        reading = advance(alloc, bytes, reading, token)?;
+        advance(alloc, bytes, &mut reading, token)?;
     }
 }
 
-/// The reader behind one more token of the bytes.
-fn advance(alloc: Global, bytes: &[u8], reading: Reading, token: Token) -> Result<Reading, ReadErr>
-    requires reading { IsReading bytes.now reading.place reading.progress reading.counts }
-    requires next { next_from bytes.now reading.place ≡ Ok token }
+/// The reader goes behind one more token of the bytes.
+fn advance(alloc: Global, bytes: &[u8], reading: &mut Reading, token: Token) -> Result<(), ReadErr>
+    requires reading { IsReading bytes.now reading.old.place reading.old.progress reading.old.counts }
+    requires next { next_from bytes.now reading.old.place ≡ Ok token }
     requires some { token.kind ≢ End }
-    requires placed { IsPlaced bytes.now reading.place token }
-    ensures read { IfOk result (λ r. IsReading bytes.now r.place r.progress r.counts) }
-    ensures place { IfOk result (λ r. r.place ≡ token.end) }
+    requires placed { IsPlaced bytes.now reading.old.place token }
+    ensures read { OnOk result (IsReading bytes.now reading.new.place reading.new.progress reading.new.counts) }
+    ensures place { OnOk result (reading.new.place ≡ token.end) }
     ensures fault { IfErr result (IsFault bytes.now) }
 {
     let symbol = symbol_at(alloc, bytes, token)?;
@@ -79,13 +79,13 @@ fn advance(alloc: Global, bytes: &[u8], reading: Reading, token: Token) -> Resul
     match reading.progress.step(alloc, symbol) {
         Err(Stop::Refused) => Err(ReadErr::Syntax { offset }),
         Err(Stop::Memory) => Err(ReadErr::Memory),
-        Ok(progress) => match counts {
+        Ok(()) => match counts {
             None => Err(ReadErr::Deep { offset }),
-            Some(counts) => Ok(Reading {
-                progress,
-                counts,
-                place: token.end,
-            }),
+            Some(counts) => {
+                reading.counts = counts;
+                reading.place = token.end;
+                Ok(())
+            }
         },
     }
 }

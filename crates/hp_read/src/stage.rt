@@ -1,21 +1,25 @@
 //! How far a whole text is read, and the steps from one token to the next.
 //! The steps are those of the machine of texts in `specs/`. The enum has a drop of its own, which keeps the proofs of its callers short.
 
-ghost use Rattle.std.specs.Prelude.{◌≡◌, [], ◌∷◌, ◌++◌, Option, Some, None};
+ghost use Rattle.std.specs.Prelude.{◌≡◌, Option, Some, None};
 ghost use Rattle.hp_read.specs.Given.{Gives};
+ghost use Rattle.hp_read.specs.Moves.{Moves};
 ghost use Rattle.hp_read.specs.Machine.{◌and_then◌};
 ghost use Rattle.hp_read.specs.BodyMachine.{body_end};
-ghost use Rattle.hp_read.specs.Problems.{problem_of, clause_of};
-ghost use Rattle.hp_read.specs.Top.{started, ends_with as ends_with_kind, declaration as declaration_at, between as between_at, item_goes, at_start, at_profile, at_numbered, at_whole, at_clause, constants_stage, function_stage, variables_stage, body_stage, stage_step, top_step, stage_end, top_end, with_item, is_whole as is_whole_stage};
+ghost use Rattle.hp_read.specs.Stages.{constants_end};
+ghost use Rattle.hp_read.specs.declared.stage.Stage.TheVariants.{Whole};
+ghost use Rattle.hp_read.specs.Problems.{clause_of};
+ghost use Rattle.hp_read.specs.Top.{started, ends_with as ends_with_kind, declaration as declaration_at, between as between_at, item_goes, at_start, at_profile, at_numbered, at_whole, at_clause, constants_stage, function_stage, variables_stage, body_stage, stage_step, top_step, at, top_end, with_item, with_declarations, is_whole as is_whole_stage};
 
 use crate::body::{Body, Place};
 use crate::lines::{Constants, Function, Variables};
 use crate::stop::Stop;
 use crate::symbol::{Symbol, same};
-use hp_ast::{Clause, Decl, Problem, Var};
+use hp_ast::{Clause, Problem, Var};
 use hp_num::List;
 use hp_text::Kind;
 use std::alloc::Global;
+use std::mem;
 
 /// What of a text is read last.
 pub enum Stage {
@@ -70,31 +74,26 @@ fn ends_with(symbol: &Symbol, kind: Kind) -> bool
 }
 
 /// A declaration begins, before which no item stands.
-fn declaration(made: Problem, stage: Stage) -> Result<Progress, Stop>
-    ensures { Gives (λ p. p) result (declaration_at made made.clauses stage) }
+fn declaration(made: &Problem, stage: Stage) -> Result<Stage, Stop>
+    ensures { Gives (λ s. at made.now s) result (declaration_at made.now made.now.clauses stage) }
 {
     match made.clauses.as_slice() {
-        [] => Ok(Progress { made, stage }),
+        [] => Ok(stage),
         [..] => Err(Stop::Refused),
     }
 }
 
 /// An item begins.
 #[tactic(auto, unfolding(crate::specs::Top::item_goes))]
-fn item(alloc: Global, made: Problem, kind: Kind) -> Result<Progress, Stop>
-    ensures { Gives (λ p. p) result (item_goes made kind) }
+fn item(alloc: Global, made: &Problem, kind: Kind) -> Result<Stage, Stop>
+    ensures { Gives (λ s. at made.now s) result (item_goes made.now kind) }
 {
+    let _made = made;
     if same(kind, Kind::Clause) {
-        Ok(Progress {
-            made,
-            stage: Stage::Clause,
-        })
+        Ok(Stage::Clause)
     } else if same(kind, Kind::Query) {
         let body = Place::First.begun(alloc);
-        Ok(Progress {
-            made,
-            stage: Stage::Body(true, List::new(alloc), body),
-        })
+        Ok(Stage::Body(true, List::new(alloc), body))
     } else {
         Err(Stop::Refused)
     }
@@ -102,8 +101,8 @@ fn item(alloc: Global, made: Problem, kind: Kind) -> Result<Progress, Stop>
 
 /// A declaration or an item begins.
 #[tactic(auto, unfolding(crate::specs::Top::between))]
-fn between(alloc: Global, made: Problem, kind: Kind) -> Result<Progress, Stop>
-    ensures { Gives (λ p. p) result (between_at made kind) }
+fn between(alloc: Global, made: &Problem, kind: Kind) -> Result<Stage, Stop>
+    ensures { Gives (λ s. at made.now s) result (between_at made.now kind) }
 {
     if same(kind, Kind::Const) {
         let names = Constants::Name(List::new(alloc));
@@ -117,16 +116,13 @@ fn between(alloc: Global, made: Problem, kind: Kind) -> Result<Progress, Stop>
 
 /// The first token of the text.
 #[tactic(auto, unfolding(crate::specs::Top::at_start))]
-fn start(alloc: Global, made: Problem, symbol: Symbol) -> Result<Progress, Stop>
-    ensures { Gives (λ p. p) result (at_start made symbol) }
+fn start(alloc: Global, made: &Problem, symbol: Symbol) -> Result<Stage, Stop>
+    ensures { Gives (λ s. at made.now s) result (at_start made.now symbol) }
 {
     match symbol {
         Symbol::Word(kind) => {
             if same(kind, Kind::Profile) {
-                Ok(Progress {
-                    made,
-                    stage: Stage::Profile,
-                })
+                Ok(Stage::Profile)
             } else {
                 between(alloc, made, kind)
             }
@@ -137,16 +133,14 @@ fn start(alloc: Global, made: Problem, symbol: Symbol) -> Result<Progress, Stop>
 
 /// Behind `profile`, where the number 1 may stand.
 #[tactic(auto, unfolding(crate::specs::Top::at_profile))]
-fn profile(made: Problem, symbol: Symbol) -> Result<Progress, Stop>
-    ensures { Gives (λ p. p) result (at_profile made symbol) }
+fn profile(made: &Problem, symbol: Symbol) -> Result<Stage, Stop>
+    ensures { Gives (λ s. at made.now s) result (at_profile made.now symbol) }
 {
+    let _made = made;
     match symbol {
         Symbol::Numeral(n) => {
             if n == 1 {
-                Ok(Progress {
-                    made,
-                    stage: Stage::Numbered,
-                })
+                Ok(Stage::Numbered)
             } else {
                 Err(Stop::Refused)
             }
@@ -157,14 +151,12 @@ fn profile(made: Problem, symbol: Symbol) -> Result<Progress, Stop>
 
 /// Behind the number of the profile.
 #[tactic(auto, unfolding(crate::specs::Top::at_numbered))]
-fn numbered(made: Problem, symbol: Symbol) -> Result<Progress, Stop>
-    ensures { Gives (λ p. p) result (at_numbered made symbol) }
+fn numbered(made: &Problem, symbol: Symbol) -> Result<Stage, Stop>
+    ensures { Gives (λ s. at made.now s) result (at_numbered made.now symbol) }
 {
+    let _made = made;
     if ends_with(&symbol, Kind::Semicolon) {
-        Ok(Progress {
-            made,
-            stage: Stage::Whole,
-        })
+        Ok(Stage::Whole)
     } else {
         Err(Stop::Refused)
     }
@@ -172,8 +164,8 @@ fn numbered(made: Problem, symbol: Symbol) -> Result<Progress, Stop>
 
 /// Behind a declaration or an item.
 #[tactic(auto, unfolding(crate::specs::Top::at_whole))]
-fn whole(alloc: Global, made: Problem, symbol: Symbol) -> Result<Progress, Stop>
-    ensures { Gives (λ p. p) result (at_whole made symbol) }
+fn whole(alloc: Global, made: &Problem, symbol: Symbol) -> Result<Stage, Stop>
+    ensures { Gives (λ s. at made.now s) result (at_whole made.now symbol) }
 {
     match symbol {
         Symbol::Word(kind) => between(alloc, made, kind),
@@ -181,85 +173,63 @@ fn whole(alloc: Global, made: Problem, symbol: Symbol) -> Result<Progress, Stop>
     }
 }
 
+/// The declarations of a line of constants that ends here.
+fn end_of_constants(alloc: Global, made: &mut Problem, constants: Constants) -> Result<(), Stop>
+    ensures { Moves (at made.new Whole) result (constants_end constants and_then λ ds. Some (with_declarations made.old ds)) }
+{
+    let decls = mem::replace(&mut made.decls, List::new(alloc));
+    let decls = constants.end(alloc, decls)?;
+    made.decls = decls;
+    Ok(())
+}
+
 /// In a line of constants.
 #[tactic(auto, unfolding(crate::specs::Top::constants_stage))]
 fn in_constants(
     alloc: Global,
-    made: Problem,
+    made: &mut Problem,
     constants: Constants,
     symbol: Symbol,
-) -> Result<Progress, Stop>
-    ensures { Gives (λ p. p) result (constants_stage made constants symbol) }
+) -> Result<Stage, Stop>
+    ensures { Gives (λ s. at made.new s) result (constants_stage made.old constants symbol) }
 {
     if ends_with(&symbol, Kind::Semicolon) {
-        let decls = constants.end(alloc, made.decls)?;
-        let made = Problem {
-            profile: made.profile,
-            decls,
-            clauses: made.clauses,
-        };
-        Ok(Progress {
-            made,
-            stage: Stage::Whole,
-        })
+        end_of_constants(alloc, made, constants)?;
+        Ok(Stage::Whole)
     } else {
         let constants = constants.step(symbol)?;
-        Ok(Progress {
-            made,
-            stage: Stage::Constants(constants),
-        })
+        Ok(Stage::Constants(constants))
     }
-}
-
-/// The problem with one declaration more.
-fn declared(made: Problem, decl: Decl) -> Result<Problem, Stop>
-    ensures { Gives (λ p. p) result (Some (problem_of made.profile (made.decls ++ decl ∷ []) made.clauses)) }
-{
-    let mut decls = made.decls;
-    decls.push(decl)?;
-    Ok(Problem {
-        profile: made.profile,
-        decls,
-        clauses: made.clauses,
-    })
 }
 
 /// In the declaration of a function.
 #[tactic(auto, unfolding(crate::specs::Top::function_stage))]
 fn in_function(
     alloc: Global,
-    made: Problem,
+    made: &mut Problem,
     function: Function,
     symbol: Symbol,
-) -> Result<Progress, Stop>
-    ensures { Gives (λ p. p) result (function_stage made function symbol) }
+) -> Result<Stage, Stop>
+    ensures { Gives (λ s. at made.new s) result (function_stage made.old function symbol) }
 {
     if ends_with(&symbol, Kind::Semicolon) {
         let decl = function.end()?;
-        let made = declared(made, decl)?;
-        Ok(Progress {
-            made,
-            stage: Stage::Whole,
-        })
+        made.decls.push(decl)?;
+        Ok(Stage::Whole)
     } else {
         let function = function.step(alloc, symbol)?;
-        Ok(Progress {
-            made,
-            stage: Stage::Function(function),
-        })
+        Ok(Stage::Function(function))
     }
 }
 
 /// Behind `clause`.
 #[tactic(auto, unfolding(crate::specs::Top::at_clause))]
-fn clause(made: Problem, symbol: Symbol) -> Result<Progress, Stop>
-    ensures { Gives (λ p. p) result (at_clause made symbol) }
+fn clause(made: &Problem, symbol: Symbol) -> Result<Stage, Stop>
+    ensures { Gives (λ s. at made.now s) result (at_clause made.now symbol) }
 {
+    let _made = made;
     if ends_with(&symbol, Kind::OpenSquare) {
-        Ok(Progress {
-            made,
-            stage: Stage::Variables(Variables::First),
-        })
+        Ok(Stage::Variables(Variables::First))
     } else {
         Err(Stop::Refused)
     }
@@ -269,92 +239,69 @@ fn clause(made: Problem, symbol: Symbol) -> Result<Progress, Stop>
 #[tactic(auto, unfolding(crate::specs::Top::variables_stage))]
 fn in_variables(
     alloc: Global,
-    made: Problem,
+    made: &Problem,
     variables: Variables,
     symbol: Symbol,
-) -> Result<Progress, Stop>
-    ensures { Gives (λ p. p) result (variables_stage made variables symbol) }
+) -> Result<Stage, Stop>
+    ensures { Gives (λ s. at made.now s) result (variables_stage made.now variables symbol) }
 {
+    let _made = made;
     if ends_with(&symbol, Kind::CloseSquare) {
         let vars = variables.end(alloc)?;
         let body = Place::First.begun(alloc);
-        Ok(Progress {
-            made,
-            stage: Stage::Body(false, vars, body),
-        })
+        Ok(Stage::Body(false, vars, body))
     } else {
         let variables = variables.step(alloc, symbol)?;
-        Ok(Progress {
-            made,
-            stage: Stage::Variables(variables),
-        })
+        Ok(Stage::Variables(variables))
     }
-}
-
-/// The problem with one item more.
-fn added(made: Problem, clause: Clause) -> Result<Problem, Stop>
-    ensures { Gives (λ p. p) result (Some (problem_of made.profile made.decls (made.clauses ++ clause ∷ []))) }
-{
-    let mut clauses = made.clauses;
-    clauses.push(clause)?;
-    Ok(Problem {
-        profile: made.profile,
-        decls: made.decls,
-        clauses,
-    })
 }
 
 /// The end of a body.
 fn end_of_body(
     alloc: Global,
-    made: Problem,
+    made: &mut Problem,
     query: bool,
     vars: List<Var>,
     body: Body,
-) -> Result<Progress, Stop>
-    ensures { Gives (λ p. p) result (body_end body and_then λ r. Some (with_item made (clause_of query vars r.0 r.1))) }
+) -> Result<(), Stop>
+    ensures { Moves (at made.new Whole) result (body_end body and_then λ r. Some (with_item made.old (clause_of query vars r.0 r.1))) }
 {
     let sides = body.end(alloc)?;
-    let clause = Clause {
+    made.clauses.push(Clause {
         query,
         vars,
         guard: sides.guard,
         head: sides.head,
-    };
-    let made = added(made, clause)?;
-    Ok(Progress {
-        made,
-        stage: Stage::Whole,
-    })
+    })?;
+    Ok(())
 }
 
 /// In a body.
 #[tactic(auto, unfolding(crate::specs::Top::body_stage))]
 fn in_body(
     alloc: Global,
-    made: Problem,
+    made: &mut Problem,
     query: bool,
     vars: List<Var>,
-    body: Body,
+    mut body: Body,
     symbol: Symbol,
-) -> Result<Progress, Stop>
-    ensures { Gives (λ p. p) result (body_stage made query vars body symbol) }
+) -> Result<Stage, Stop>
+    ensures { Gives (λ s. at made.new s) result (body_stage made.old query vars body symbol) }
 {
     if ends_with(&symbol, Kind::Semicolon) {
-        end_of_body(alloc, made, query, vars, body)
+        end_of_body(alloc, made, query, vars, body)?;
+        Ok(Stage::Whole)
     } else {
-        let body = body.step(alloc, symbol)?;
-        Ok(Progress {
-            made,
-            stage: Stage::Body(query, vars, body),
-        })
+        body.step(alloc, symbol)?;
+        Ok(Stage::Body(query, vars, body))
     }
 }
 
 impl Stage {
-    /// The text behind one more token.
-    fn step(self, alloc: Global, made: Problem, symbol: Symbol) -> Result<Progress, Stop>
-        ensures { Gives (λ p. p) result (stage_step made self symbol) }
+    /// The text behind one more token. Its many locals are kept out of the frames of its callers.
+    #[inline(never)]
+    fn turn(self, alloc: Global, made: &mut Problem, symbol: Symbol) -> Result<Stage, Stop>
+        ensures { Gives (λ s. at made.new s) result (stage_step made.old self symbol) }
     {
         match self {
             Stage::Start => start(alloc, made, symbol),
@@ -367,6 +314,37 @@ impl Stage {
             Stage::Variables(variables) => in_variables(alloc, made, variables, symbol),
             Stage::Body(query, vars, body) => in_body(alloc, made, query, vars, body, symbol),
         }
+    }
+
+    /// The text goes behind one more token. What comes most goes on in its place, since a stage is too large to be moved at each token.
+    #[tactic(auto, unfolding(crate::specs::Top::body_stage, crate::specs::Top::variables_stage))]
+    fn step(&mut self, alloc: Global, made: &mut Problem, symbol: Symbol) -> Result<(), Stop>
+        ensures { Moves (at made.new self.new) result (stage_step made.old self.old symbol) }
+    {
+        match self {
+            Stage::Body(_query, _vars, body) => {
+                if !ends_with(&symbol, Kind::Semicolon) {
+                    return body.step(alloc, symbol);
+                }
+            }
+            Stage::Variables(variables) => {
+                if !ends_with(&symbol, Kind::CloseSquare) {
+                    let behind = mem::replace(variables, Variables::First).step(alloc, symbol)?;
+                    *variables = behind;
+                    return Ok(());
+                }
+            }
+            Stage::Whole => {
+                let stage = whole(alloc, made, symbol)?;
+                *self = stage;
+                return Ok(());
+            }
+            _ => {}
+        }
+        let stage = mem::replace(self, Stage::Whole);
+        let stage = stage.turn(alloc, made, symbol)?;
+        *self = stage;
+        Ok(())
     }
 
     /// Whether the text may end here.
@@ -392,11 +370,11 @@ impl Progress {
         }
     }
 
-    /// The text behind one more token.
-    pub(crate) fn step(self, alloc: Global, symbol: Symbol) -> Result<Progress, Stop>
-        ensures { Gives (λ p. p) result (top_step self symbol) }
+    /// The text goes behind one more token.
+    pub(crate) fn step(&mut self, alloc: Global, symbol: Symbol) -> Result<(), Stop>
+        ensures { Moves self.new result (top_step self.old symbol) }
     {
-        self.stage.step(alloc, self.made, symbol)
+        self.stage.step(alloc, &mut self.made, symbol)
     }
 
     /// The problem, where the text may end here.

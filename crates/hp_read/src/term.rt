@@ -1,7 +1,7 @@
 //! Reading a term, token by token.
 
 ghost use Rattle.std.specs.Prelude.{◌≡◌, Option, Some, None};
-ghost use Rattle.hp_read.specs.Given.{Gives};
+ghost use Rattle.hp_read.specs.Moves.{Moves};
 ghost use Rattle.hp_read.specs.Machine.{close, next_argument, at_word, number_goes, factor_goes, end_goes, plus_goes, minus_goes, star_goes, slash_goes, null_goes, open_goes, close_goes, comma_goes};
 
 use crate::build::call_term;
@@ -11,143 +11,146 @@ use crate::stop::Stop;
 use crate::symbol::same;
 use hp_ast::Term;
 use hp_text::Kind;
+use sqlite_items::Boxed;
 use std::alloc::Global;
+use std::mem;
 
-/// A term that is read: what stands in the innermost parenthesis, and the open ones.
-#[derive(Drop)]
-pub struct TermState {
-    pub mode: Mode,
-    pub frames: Stack<Frame>,
-}
-
-fn shut(term: Term, mut frames: Stack<Frame>) -> Result<TermState, Stop>
-    ensures { Gives (λ s. (s.mode, s.frames)) result (close term frames) }
+/// Behind `)`, which ends a group or the arguments of a function.
+fn shut(
+    alloc: Global,
+    term: Boxed<Term>,
+    mode: &mut Mode,
+    frames: &mut Stack<Frame>,
+) -> Result<(), Stop>
+    ensures { Moves (mode.new, frames.new) result (close term frames.old) }
 {
     match frames.pop() {
         None => Err(Stop::Refused),
-        Some(Frame::Group(front, number)) => Ok(TermState {
-            mode: Mode::Done(front, number, term),
-            frames,
-        }),
+        Some(Frame::Group(front, number)) => {
+            *mode = Mode::Done(front, number, term);
+            Ok(())
+        }
         Some(Frame::Call(front, number, func, mut args)) => {
-            args.push(term)?;
-            Ok(TermState {
-                mode: Mode::Done(front, number, call_term(func, args)),
-                frames,
-            })
+            args.push(term.into_inner())?;
+            let call = call_term(alloc, func, args)?;
+            *mode = Mode::Done(front, number, call);
+            Ok(())
         }
     }
 }
 
-fn next(term: Term, mut frames: Stack<Frame>) -> Result<TermState, Stop>
-    ensures { Gives (λ s. (s.mode, s.frames)) result (next_argument term frames) }
+/// Behind `,`, which ends an argument.
+fn next(term: Boxed<Term>, mode: &mut Mode, frames: &mut Stack<Frame>) -> Result<(), Stop>
+    ensures { Moves (mode.new, frames.new) result (next_argument term frames.old) }
 {
     match frames.pop() {
         Some(Frame::Call(front, number, func, mut args)) => {
-            args.push(term)?;
+            args.push(term.into_inner())?;
             frames.push(Frame::Call(front, number, func, args))?;
-            Ok(TermState {
-                mode: Mode::Part(Front::Nothing),
-                frames,
-            })
+            *mode = Mode::Part(Front::Nothing);
+            Ok(())
         }
         _ => Err(Stop::Refused),
     }
 }
 
-#[tactic(auto, unfolding(crate::specs::Machine::plus_goes))]
-fn plus_sign(alloc: Global, state: TermState) -> Result<TermState, Stop>
-    ensures { Gives (λ s. (s.mode, s.frames)) result (plus_goes state.mode state.frames) }
+/// The mode, for which a fresh one is left.
+fn taken(mode: &mut Mode) -> Mode
+    ensures { result ≡ mode.old }
 {
-    let term = state.mode.end(alloc)?;
-    Ok(TermState {
-        mode: Mode::Part(Front::Sum(term)),
-        frames: state.frames,
-    })
+    mem::replace(mode, Mode::Part(Front::Nothing))
+}
+
+#[tactic(auto, unfolding(crate::specs::Machine::plus_goes))]
+fn plus_sign(alloc: Global, mode: &mut Mode, frames: &mut Stack<Frame>) -> Result<(), Stop>
+    ensures { Moves (mode.new, frames.new) result (plus_goes mode.old frames.old) }
+{
+    let _frames = frames;
+    let term = taken(mode).end(alloc)?;
+    *mode = Mode::Part(Front::Sum(term));
+    Ok(())
 }
 
 #[tactic(auto, unfolding(crate::specs::Machine::minus_goes))]
-fn minus_sign(alloc: Global, state: TermState) -> Result<TermState, Stop>
-    ensures { Gives (λ s. (s.mode, s.frames)) result (minus_goes state.mode state.frames) }
+fn minus_sign(alloc: Global, mode: &mut Mode, frames: &mut Stack<Frame>) -> Result<(), Stop>
+    ensures { Moves (mode.new, frames.new) result (minus_goes mode.old frames.old) }
 {
-    let mode = state.mode.minus(alloc)?;
-    Ok(TermState {
-        mode,
-        frames: state.frames,
-    })
+    let _frames = frames;
+    let next = taken(mode).minus(alloc)?;
+    *mode = next;
+    Ok(())
 }
 
 #[tactic(auto, unfolding(crate::specs::Machine::star_goes))]
-fn star_sign(state: TermState) -> Result<TermState, Stop>
-    ensures { Gives (λ s. (s.mode, s.frames)) result (star_goes state.mode state.frames) }
+fn star_sign(alloc: Global, mode: &mut Mode, frames: &mut Stack<Frame>) -> Result<(), Stop>
+    ensures { Moves (mode.new, frames.new) result (star_goes mode.old frames.old) }
 {
-    let mode = state.mode.star()?;
-    Ok(TermState {
-        mode,
-        frames: state.frames,
-    })
+    let _frames = frames;
+    let next = taken(mode).star(alloc)?;
+    *mode = next;
+    Ok(())
 }
 
 #[tactic(auto, unfolding(crate::specs::Machine::slash_goes))]
-fn slash_sign(state: TermState) -> Result<TermState, Stop>
-    ensures { Gives (λ s. (s.mode, s.frames)) result (slash_goes state.mode state.frames) }
+fn slash_sign(mode: &mut Mode, frames: &mut Stack<Frame>) -> Result<(), Stop>
+    ensures { Moves (mode.new, frames.new) result (slash_goes mode.old frames.old) }
 {
-    let mode = state.mode.slash()?;
-    Ok(TermState {
-        mode,
-        frames: state.frames,
-    })
+    let _frames = frames;
+    let next = taken(mode).slash()?;
+    *mode = next;
+    Ok(())
 }
 
 #[tactic(auto, unfolding(crate::specs::Machine::null_goes))]
-fn null_word(state: TermState) -> Result<TermState, Stop>
-    ensures { Gives (λ s. (s.mode, s.frames)) result (null_goes state.mode state.frames) }
+fn null_word(alloc: Global, mode: &mut Mode, frames: &mut Stack<Frame>) -> Result<(), Stop>
+    ensures { Moves (mode.new, frames.new) result (null_goes mode.old frames.old) }
 {
-    let mode = state.mode.null()?;
-    Ok(TermState {
-        mode,
-        frames: state.frames,
-    })
+    let _frames = frames;
+    let next = taken(mode).null(alloc)?;
+    *mode = next;
+    Ok(())
 }
 
 #[tactic(auto, unfolding(crate::specs::Machine::open_goes))]
-fn open_sign(alloc: Global, state: TermState) -> Result<TermState, Stop>
-    ensures { Gives (λ s. (s.mode, s.frames)) result (open_goes state.mode state.frames) }
+fn open_sign(alloc: Global, mode: &mut Mode, frames: &mut Stack<Frame>) -> Result<(), Stop>
+    ensures { Moves (mode.new, frames.new) result (open_goes mode.old frames.old) }
 {
-    let frame = state.mode.open(alloc)?;
-    let mut frames = state.frames;
+    let frame = taken(mode).open(alloc)?;
     frames.push(frame)?;
-    Ok(TermState {
-        mode: Mode::Part(Front::Nothing),
-        frames,
-    })
+    *mode = Mode::Part(Front::Nothing);
+    Ok(())
 }
 
 #[tactic(auto, unfolding(crate::specs::Machine::close_goes))]
-fn close_sign(alloc: Global, state: TermState) -> Result<TermState, Stop>
-    ensures { Gives (λ s. (s.mode, s.frames)) result (close_goes state.mode state.frames) }
+fn close_sign(alloc: Global, mode: &mut Mode, frames: &mut Stack<Frame>) -> Result<(), Stop>
+    ensures { Moves (mode.new, frames.new) result (close_goes mode.old frames.old) }
 {
-    let term = state.mode.end(alloc)?;
-    shut(term, state.frames)
+    let term = taken(mode).end(alloc)?;
+    shut(alloc, term, mode, frames)
 }
 
 #[tactic(auto, unfolding(crate::specs::Machine::comma_goes))]
-fn comma_sign(alloc: Global, state: TermState) -> Result<TermState, Stop>
-    ensures { Gives (λ s. (s.mode, s.frames)) result (comma_goes state.mode state.frames) }
+fn comma_sign(alloc: Global, mode: &mut Mode, frames: &mut Stack<Frame>) -> Result<(), Stop>
+    ensures { Moves (mode.new, frames.new) result (comma_goes mode.old frames.old) }
 {
-    let term = state.mode.end(alloc)?;
-    next(term, state.frames)
+    let term = taken(mode).end(alloc)?;
+    next(term, mode, frames)
 }
 
 /// Behind `)` and `,`.
 #[tactic(auto, unfolding(crate::specs::Machine::end_goes))]
-fn end_word(alloc: Global, kind: Kind, state: TermState) -> Result<TermState, Stop>
-    ensures { Gives (λ s. (s.mode, s.frames)) result (end_goes kind state.mode state.frames) }
+fn end_word(
+    alloc: Global,
+    kind: Kind,
+    mode: &mut Mode,
+    frames: &mut Stack<Frame>,
+) -> Result<(), Stop>
+    ensures { Moves (mode.new, frames.new) result (end_goes kind mode.old frames.old) }
 {
     if same(kind, Kind::CloseRound) {
-        close_sign(alloc, state)
+        close_sign(alloc, mode, frames)
     } else if same(kind, Kind::Comma) {
-        comma_sign(alloc, state)
+        comma_sign(alloc, mode, frames)
     } else {
         Err(Stop::Refused)
     }
@@ -155,42 +158,57 @@ fn end_word(alloc: Global, kind: Kind, state: TermState) -> Result<TermState, St
 
 /// Behind `null` and `(`, and what ends.
 #[tactic(auto, unfolding(crate::specs::Machine::factor_goes))]
-fn factor_word(alloc: Global, kind: Kind, state: TermState) -> Result<TermState, Stop>
-    ensures { Gives (λ s. (s.mode, s.frames)) result (factor_goes kind state.mode state.frames) }
+fn factor_word(
+    alloc: Global,
+    kind: Kind,
+    mode: &mut Mode,
+    frames: &mut Stack<Frame>,
+) -> Result<(), Stop>
+    ensures { Moves (mode.new, frames.new) result (factor_goes kind mode.old frames.old) }
 {
     if same(kind, Kind::Null) {
-        null_word(state)
+        null_word(alloc, mode, frames)
     } else if same(kind, Kind::OpenRound) {
-        open_sign(alloc, state)
+        open_sign(alloc, mode, frames)
     } else {
-        end_word(alloc, kind, state)
+        end_word(alloc, kind, mode, frames)
     }
 }
 
 /// Behind `*` and `/`, and what is no number.
 #[tactic(auto, unfolding(crate::specs::Machine::number_goes))]
-fn number_word(alloc: Global, kind: Kind, state: TermState) -> Result<TermState, Stop>
-    ensures { Gives (λ s. (s.mode, s.frames)) result (number_goes kind state.mode state.frames) }
+fn number_word(
+    alloc: Global,
+    kind: Kind,
+    mode: &mut Mode,
+    frames: &mut Stack<Frame>,
+) -> Result<(), Stop>
+    ensures { Moves (mode.new, frames.new) result (number_goes kind mode.old frames.old) }
 {
     if same(kind, Kind::Star) {
-        star_sign(state)
+        star_sign(alloc, mode, frames)
     } else if same(kind, Kind::Slash) {
-        slash_sign(state)
+        slash_sign(mode, frames)
     } else {
-        factor_word(alloc, kind, state)
+        factor_word(alloc, kind, mode, frames)
     }
 }
 
-/// The state behind one more word or sign.
+/// A term goes behind one more word or sign: what stands in the innermost parenthesis, and the open ones.
 #[tactic(auto, unfolding(crate::specs::Machine::at_word))]
-pub(crate) fn word(alloc: Global, kind: Kind, state: TermState) -> Result<TermState, Stop>
-    ensures { Gives (λ s. (s.mode, s.frames)) result (at_word kind state.mode state.frames) }
+pub(crate) fn word(
+    alloc: Global,
+    kind: Kind,
+    mode: &mut Mode,
+    frames: &mut Stack<Frame>,
+) -> Result<(), Stop>
+    ensures { Moves (mode.new, frames.new) result (at_word kind mode.old frames.old) }
 {
     if same(kind, Kind::Plus) {
-        plus_sign(alloc, state)
+        plus_sign(alloc, mode, frames)
     } else if same(kind, Kind::Minus) {
-        minus_sign(alloc, state)
+        minus_sign(alloc, mode, frames)
     } else {
-        number_word(alloc, kind, state)
+        number_word(alloc, kind, mode, frames)
     }
 }
