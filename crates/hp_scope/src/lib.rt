@@ -1,0 +1,6 @@
+//! The problems over index constants that ground lines are made for, told by the rules on names and sorts alone.
+#![tactic(auto)]
+
+mod laws;
+
+pub use laws::scope_by_sorts;
