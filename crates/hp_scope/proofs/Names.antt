@@ -1,7 +1,7 @@
 -- What index constants alone declare, and that no fault of the declarations leaves their names distinct.
-use Rattle.std.proofs.Common.{◌≡◌, ℕ, ◌+◌, ◌<◌, List, [], ◌∷◌, ◌++◌, ◌||◌, Bool, true, false, cond, map, length, nat_lt, get_or, Option, Some, None, option_map, option_and_then, slice_get, refl, sym, ap, subst, ◌∙◌, append_assoc, append-nil, arith}
+use Rattle.std.proofs.Common.{◌≡◌, ℕ, ◌+◌, ◌<◌, List, [], ◌∷◌, ◌++◌, ◌||◌, Bool, true, false, cond, map, length, nat_lt, Option, Some, None, option_map, option_and_then, slice_get, refl, sym, ap, subst, ◌∙◌, append_assoc, append-nil}
 use Rattle.std.specs.Prelude.{if◌then◌else◌}
-use Rattle.std.specs.List.{All, list_any, position, position_or_len}
+use Rattle.std.specs.List.{All, position_or_len}
 use Rattle.std.specs.Str.{bytes_eq}
 use Rattle.std.specs.Option.{option_or}
 use Rattle.std.proofs.lemmas.Bool.{ltb-true, or_parts}
@@ -53,8 +53,8 @@ pub named-index : (names : List Name) (name : Name) → named name names (map (�
 named-index names name =
     let n = position_or_len (bytes_eq name) names in
     (elim (nat_lt n (length names)) as (λ b. nat_lt n (length names) ≡ b
-        → option_and_then (λ place. slice_get (map (λ (name : Name). Idx) names) place) (cond b (Some n) None)
-        ≡ base_sort (option_map (λ at. record { 0 = at }) (cond b (Some n) None))) [
+    → option_and_then (λ place. slice_get (map (λ (name : Name). Idx) names) place) (cond b (Some n) None)
+    ≡ base_sort (option_map (λ at. record { 0 = at }) (cond b (Some n) None))) [
       | true ↦ λ e. idx_at names n (ltb-true n (length names) e)
       | false ↦ λ e. refl
     ]) refl

@@ -1,5 +1,5 @@
 -- The problems over index constants are those of sort idx.
-use Rattle.std.proofs.Common.{◌≡◌, ◌&&◌, ◌<◌, ℕ, List, [], ◌∷◌, Bool, true, false, None, length, get_or, refl, sym, subst}
+use Rattle.std.proofs.Common.{◌≡◌, List, [], true, None, length, get_or, sym, subst}
 use Rattle.std.specs.List.{All, list_all}
 use Rattle.std.proofs.lemmas.Bool.{and_parts}
 use Rattle.std.proofs.lemmas.List.Elements.{All-weaker}

@@ -1,5 +1,5 @@
 -- Of a term over index constants, the forms and the first sort against its shape, and of an atom its sort against its sides.
-use Rattle.std.proofs.Common.{◌≡◌, List, [], ◌&&◌, ◌||◌, Bool, true, false, cond, Option, Some, None, refl, sym, ap, subst, ◌∙◌}
+use Rattle.std.proofs.Common.{◌≡◌, List, [], ◌&&◌, ◌||◌, true, false, cond, Option, Some, None, refl, sym, subst, ◌∙◌}
 use Rattle.std.specs.Prelude.{unwrap_or}
 use Rattle.std.specs.Option.{option_or}
 use Rattle.std.proofs.lemmas.Bool.{and_parts}
@@ -9,12 +9,11 @@ use Rattle.hp_ast.specs.declared.term.Term.{Term, fold-roll-Term, ind-Term, roll
 use Rattle.hp_ast.specs.declared.term.Term.TheOpen.{Term-F}
 use Rattle.hp_ast.specs.declared.problem.Sort.{Sort}
 use Rattle.hp_ast.specs.declared.problem.Sort.TheVariants.{Num, Idx}
-use Rattle.hp_ast.specs.declared.problem.Cmp.{Cmp}
 use Rattle.hp_ast.specs.declared.problem.Atom.{Atom}
 use Rattle.hp_sorts.specs.declared.forms.Forms.{Forms}
 use Rattle.hp_sorts.specs.Numbered.{Name}
 use Rattle.hp_sorts.specs.Symbols.{variables}
-use Rattle.hp_sorts.specs.Terms.{atom_is_sorted, atom_sort, difference_forms, first_sort, first_step, forms_step, has_form, is_sorted_as, name_forms, negation_forms, number_forms, relates, sum_forms, term_forms}
+use Rattle.hp_sorts.specs.Terms.{atom_is_sorted, atom_sort, difference_forms, first_sort, first_step, forms_step, is_sorted_as, name_forms, negation_forms, number_forms, sum_forms, term_forms}
 use Rattle.hp_norm.specs.declared.collect.Form.{Form}
 use Rattle.hp_norm.specs.declared.collect.Shape.{Shape}
 use Rattle.hp_norm.specs.declared.collect.Shape.TheVariants.{Number, Sum, Other}
