@@ -1,0 +1,4 @@
+pub mod Rising
+pub mod Truth
+pub mod Numbering
+pub mod Farkas

@@ -1,0 +1,7 @@
+use Rattle.std.proofs.Common.{ℕ, ◌<◌, get_or}
+use Rattle.hp_base.specs.declared.literal.NumLit.{NumLit}
+use Rattle.hp_descent.specs.Columns.{IsFit}
+use Rattle.hp_descent.proofs.fit.are_fit.Given as goal
+
+abbrev pub invariant-loop-at : goal.invariant-loop-at
+invariant-loop-at l = (k : ℕ) (d : NumLit) → k < l.at → IsFit (get_or l.lits k d)

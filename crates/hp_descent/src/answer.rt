@@ -1,0 +1,74 @@
+//! What the descent over literals answers, and why it may give no answer.
+
+ghost use Rattle.std.specs.Prelude.{◌≡◌};
+ghost use Rattle.hp_descent.specs.declared.answer.DescentErr.TheVariants.{Memory as memory};
+
+use hp_base::{NameValue, Share};
+use hp_num::{List, Wide};
+use std::alloc::AllocError;
+
+/// Values at which all literals are true, or the evidence that there are none.
+#[derive(Drop)]
+pub enum NumAnswer {
+    /// A value for each name that occurs in the literals, in rising order of names.
+    Point(List<NameValue>),
+    /// Multipliers of literals, which count from 1 and rise, none 0 and none negative but at equalities: the left sides
+    /// add to nothing, and the bounds to less than 0, or to 0 with a strict literal among them.
+    Farkas(List<Share>),
+}
+
+/// The same, with the chain of rows whose point gives the values.
+#[derive(Drop)]
+pub enum ChainAnswer {
+    /// The rows of the chain, which count from 1 and fall, and a value for each name that occurs in the literals, in
+    /// rising order of names.
+    Point {
+        chain: List<u32>,
+        values: List<NameValue>,
+    },
+    /// As in `NumAnswer`.
+    Farkas(List<Share>),
+}
+
+/// Where a number passes: at a row, which counts from 1, or at the point of the chain.
+#[derive(Clone, Copy, Debug, PartialEq, Eq)]
+pub enum At {
+    Row(u32),
+    Point,
+}
+
+/// How a number passes: as the chain is eliminated from a row; as a coordinate of the point of the chain is computed;
+/// as the left side of a row is summed at that point; or as a coordinate is divided by that of t, where all rows hold.
+#[derive(Clone, Copy, Debug, PartialEq, Eq)]
+pub enum Form {
+    Elimination,
+    Coordinate,
+    Sum,
+    Value,
+}
+
+/// The first number that passes 2^127 - 1 over this chain of rows, with the operation that made it. Row numbers count
+/// from 1: row 1 is that of t, and those of the literals follow. The chain lists them in the order in which the rows
+/// are taken as equations.
+#[derive(Drop)]
+pub struct RowStrain {
+    pub chain: List<u32>,
+    pub at: At,
+    pub form: Form,
+    pub wide: Wide,
+}
+
+/// Why there is no answer: a number on the way passes 2^127 - 1, or memory was wanting.
+#[derive(Drop)]
+pub enum DescentErr {
+    Strain(RowStrain),
+    Memory,
+}
+
+impl From<AllocError> for DescentErr {
+    ghost from_gives = { λ _ e. e ≡ memory };
+
+    fn from(_error: AllocError) -> DescentErr {
+        DescentErr::Memory
+    }
+}

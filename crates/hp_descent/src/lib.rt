@@ -1,0 +1,25 @@
+//! Literals over fractions, decided by dimension descent over their rows.
+//!
+//! `decide` answers values at which every literal is true, a combination of the literals that adds to nothing below 0,
+//! or the first number that is wider than 128 bits on a stated way.
+#![tactic(auto)]
+
+ghost use Rattle.hp_descent.specs.Laws.{ColumnsAreNames};
+
+mod answer;
+mod columns;
+mod decision;
+mod fit;
+mod rows;
+mod shares;
+#[cfg(test)]
+mod tests;
+
+pub use answer::{At, ChainAnswer, DescentErr, Form, NumAnswer, RowStrain};
+pub use decision::{decide, decide_chain};
+pub use fit::are_fit;
+
+/// The columns of literals are the names that occur in them, each once, in rising order.
+pub fn columns_are_names()
+    ensures { ColumnsAreNames }
+{}
