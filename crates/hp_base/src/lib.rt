@@ -13,7 +13,7 @@ mod valuation;
 pub use line::{Arg, Body, Def, Lin, LinPart, Line, Origin};
 pub use literal::{IdxLit, Lit, Name, NumLit, Part, PtrLit, Rel};
 pub use names::{Constant, Ground, Names, Signature};
-pub use proof::{Share, Step};
+pub use proof::{Choice, Share, Step};
 pub use valuation::{NameValue, Valuation};
 
 /// No values make all literals true over which a leaf of multipliers is valid.

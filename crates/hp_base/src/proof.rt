@@ -12,3 +12,10 @@ pub struct Step {
     pub lit: u32,
     pub forward: bool,
 }
+
+/// A literal of a line, both counted from 1.
+#[derive(Clone, Copy, Debug, PartialEq, Eq)]
+pub struct Choice {
+    pub line: u32,
+    pub lit: u32,
+}

@@ -7,7 +7,7 @@ use Rattle.std.proofs.lemmas.List.Elements.{All-nil, All-push}
 use Rattle.hp_base.specs.declared.literal.Lit.{Lit}
 use Rattle.hp_base.specs.declared.line.Line.{Line}
 use Rattle.hp_base.specs.declared.line.Origin.TheVariants.{Ground}
-use Rattle.hp_leaf.specs.declared.tree.Choice.{Choice}
+use Rattle.hp_base.specs.declared.proof.Choice.{Choice}
 use Rattle.hp_base.specs.Truth.{Values, IsTrueAt, LineIsTrue}
 use Rattle.hp_leaf.specs.declared.tree.Node.{Node}
 use Rattle.hp_leaf.specs.declared.tree.Node.TheVariants.{Split, Leaf, Unopened}

@@ -11,7 +11,7 @@ mod side;
 mod tree;
 
 pub use leaf::check_leaf;
-pub use tree::{Choice, LeafProof, Node};
+pub use tree::{LeafProof, Node};
 
 /// No values make all lines of a closed tree true.
 pub fn closed_trees_refute()

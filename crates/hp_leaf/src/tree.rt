@@ -26,10 +26,3 @@ pub enum Node {
     /// A place that wasn't looked at.
     Unopened,
 }
-
-/// A literal of a line, both counted from 1.
-#[derive(Clone, Copy, Debug, PartialEq, Eq)]
-pub struct Choice {
-    pub line: u32,
-    pub lit: u32,
-}

@@ -13,7 +13,7 @@ use Rattle.hp_base.specs.declared.line.Line.{Line}
 use Rattle.hp_base.specs.declared.proof.Step.{Step}
 use Rattle.hp_base.specs.Cycle.{AreRowsOf, IsLit, IsRowOf, IsValidIdx}
 use Rattle.hp_base.specs.Truth.{Values, IsTrueAt}
-use Rattle.hp_leaf.specs.declared.tree.Choice.{Choice}
+use Rattle.hp_base.specs.declared.proof.Choice.{Choice}
 use Rattle.hp_leaf.specs.declared.tree.LeafProof.TheVariants.{Idx as IdxLeaf}
 use Rattle.hp_leaf.specs.declared.tree.Node.{Node}
 use Rattle.hp_leaf.specs.declared.tree.Node.TheVariants.{Split, Leaf}

@@ -3,7 +3,7 @@ use Rattle.std.specs.Prelude.{◌≡◌, ℕ, suc, ◌+◌, ◌-◌, ◌<◌, �
 use Rattle.std.specs.List.{All}
 use Rattle.hp_base.specs.declared.line.Line.{Line}
 use Rattle.hp_base.specs.declared.literal.Lit.{Lit}
-use Rattle.hp_leaf.specs.declared.tree.Choice.{Choice}
+use Rattle.hp_base.specs.declared.proof.Choice.{Choice}
 use Rattle.hp_ast.specs.declared.problem.Sort.{Sort}
 use Rattle.hp_base.specs.declared.valuation.Valuation.{Valuation}
 use Rattle.hp_base.specs.Sorts.{AreOfSorts}

@@ -15,8 +15,8 @@ use crate::rows::{RowAnswer, decide_rows, rows_of};
 use crate::searching::SearchErr;
 use crate::singles::{Single, suspects, with_singles};
 use crate::truth::first_false;
-use hp_base::{Ground, Step, Valuation};
-use hp_leaf::{Choice, LeafProof};
+use hp_base::{Choice, Ground, Step, Valuation};
+use hp_leaf::LeafProof;
 use hp_num::List;
 use std::alloc::{AllocError, Global};
 

@@ -10,9 +10,8 @@ ghost use Rattle.hp_diff.specs.Rows.{IsSmallWhole, names_of};
 ghost use Rattle.hp_leaf.specs.Tree.{lit_at, place_lits};
 ghost use Rattle.hp_search.specs.Rows.{AreRows, HasValue, IsAnswered, IsIdxValue, IsRowOver, put_all};
 
-use hp_base::{Ground, IdxLit, Lit, NameValue, Names, Step, Valuation};
+use hp_base::{Choice, Ground, IdxLit, Lit, NameValue, Names, Step, Valuation};
 use hp_diff::{DiffAnswer, decide};
-use hp_leaf::Choice;
 use hp_num::{Frac, List};
 use std::alloc::{AllocError, Global};
 

@@ -11,8 +11,8 @@ ghost use Rattle.hp_search.specs.Singles.{AreSinglesOf};
 use crate::looking::{Seen, look};
 use crate::places::{enter, go_on, leave};
 use crate::singles::{Single, close_singles, singles_of};
-use hp_base::{Ground, Valuation};
-use hp_leaf::{Choice, Node};
+use hp_base::{Choice, Ground, Valuation};
+use hp_leaf::Node;
 use hp_num::List;
 use std::alloc::{AllocError, Global};
 
