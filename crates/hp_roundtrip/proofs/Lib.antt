@@ -17,3 +17,4 @@ pub mod Real
 pub mod Returning
 pub mod Within
 pub mod Spelled
+pub mod Reprinted

@@ -3,5 +3,7 @@
 #![tactic(auto)]
 
 mod laws;
+mod reprinting;
 
 pub use laws::printed_text_spells;
+pub use reprinting::reprint;

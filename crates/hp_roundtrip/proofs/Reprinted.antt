@@ -1,0 +1,33 @@
+-- The printed text of a problem that some text spells.
+use Rattle.std.proofs.Common.{◌≡◌, ℕ, List, subst, sym}
+use Rattle.hp_ast.specs.declared.problem.Problem.{Problem}
+use Rattle.hp_ast.specs.Printing.{problem_text}
+use Rattle.hp_read.specs.declared.symbol.Symbol.{Symbol as Token}
+use Rattle.hp_read.specs.Faults.{IsWithin}
+use Rattle.hp_read.specs.Problems.{SpellsProblem}
+use Rattle.hp_read.specs.Spells.{Spells}
+use Rattle.hp_roundtrip.specs.Law.{PrintedTextSpells, Reprints}
+use Rattle.hp_roundtrip.proofs.ProblemsCut.{problem_cut}
+use Rattle.hp_roundtrip.proofs.Spelled.{spelled_by_tokens}
+
+-- it spells the problem
+pub printed_text_spells : PrintedTextSpells
+printed_text_spells bytes p spells =
+    let known = spelled_by_tokens bytes p spells in
+    let cut = problem_cut p known.real in
+    record {
+      tokens = cut.0;
+      last = cut.1;
+      lexes = cut.2;
+      within = subst IsWithin (sym cut.3) known.within;
+      spelled = subst (λ (ts : List Token). SpellsProblem ts p) (sym cut.3) known.derived;
+    }
+
+-- and so it reprints the text
+pub reprints : (bytes text : List ℕ) (p : Problem) → Spells bytes p → text ≡ problem_text p → Reprints bytes text
+reprints bytes text p spells e = record {
+  problem = p;
+  spelled = spells;
+  printed = e;
+  respelled = subst (λ (t : List ℕ). Spells t p) (sym e) (printed_text_spells bytes p spells);
+}
