@@ -7,12 +7,12 @@ use Rattle.hp_math.specs.Rational.{ℚ, magnitude, ratio}
 use Rattle.hp_math.proofs.Rational.{ratio-is}
 use Rattle.hp_math.proofs.Parts.{abs-magnitude}
 
-copies : (n d : ℕ) → 0 < d → magnitude (ratio (pos n) d).num * d ≡ n * (ratio (pos n) d).den
+pub copies : (n d : ℕ) → 0 < d → magnitude (ratio (pos n) d).num * d ≡ n * (ratio (pos n) d).den
 copies n d p =
     let q : ℚ = ratio (pos n) d in
     omega (arith, same_out _ _ (ratio-is (pos n) d p), product_is q.num (pos d), product_is (pos n) (pos q.den))
 
-denominator_most : (n d : ℕ) → 0 < d → (ratio (pos n) d).den ≤ d
+pub denominator_most : (n d : ℕ) → 0 < d → (ratio (pos n) d).den ≤ d
 denominator_most n d p =
     let q : ℚ = ratio (pos n) d in
     elim (cases_lt d q.den) [
@@ -21,7 +21,7 @@ denominator_most n d p =
     ]
 
 -- where m / d is n / e, and e is at most d
-numerator_below : (m n d e : ℕ) → 0 < d → m * d ≡ n * e → e ≤ d → m ≤ n
+pub numerator_below : (m n d e : ℕ) → 0 < d → m * d ≡ n * e → e ≤ d → m ≤ n
 numerator_below m n d e p s l = elim (cases_lt n m) [
   | inl less ↦ absurd (omega (arith, mul-le-mul_right d less, mul-le-mul_left n l))
   | inr most ↦ most

@@ -1,36 +1,15 @@
 -- The numbers that a text spells have no sign, and their lowest terms are no larger than what was read.
-use Rattle.std.proofs.Common.{◌≡◌, ℕ, ◌*◌, ◌%◌, ◌<◌, ◌≤◌, Bool, true, false, List, [], ◌∷◌, ◌++◌, inl, inr, refl, sym, ap, subst, ◌∙◌, arith}
+use Rattle.std.proofs.Common.{◌≡◌, ℕ, ◌<◌, ◌≤◌, Bool, true, false, List, [], ◌∷◌, ◌++◌, refl, sym, ap, subst, ◌∙◌, arith}
 use Rattle.std.specs.Prelude.{pos, if◌then◌else◌}
-use Rattle.std.proofs.lemmas.Bool.{cases_lt, eqb-true}
-use Rattle.std.proofs.Math.Nat.{mul-mod_left, mul-le-mul_left, mul-le-mul_right}
-use borrow.Author.Differences.{same_out, product_is}
+use Rattle.std.proofs.lemmas.Bool.{eqb-true}
 use Rattle.hp_math.specs.Rational.{ℚ, magnitude, ratio, lowest_num, is_whole}
-use Rattle.hp_math.proofs.Rational.{ratio-is, ratio-parts}
+use Rattle.hp_math.proofs.Rational.{ratio-parts}
 use Rattle.hp_text.specs.declared.token.Kind.TheVariants as kinds
 use Rattle.hp_read.specs.declared.symbol.Symbol.{Symbol as Token}
 use Rattle.hp_read.specs.declared.symbol.Symbol.TheVariants.{Word as word, Numeral as numeral}
 use Rattle.hp_read.specs.Grammar.{SpellsNumber, whole, fraction}
+use Rattle.hp_bounds.proofs.Fractions.{copies, denominator_most, numerator_below}
 use Rattle.hp_roundtrip.specs.Printed.{frac_tokens, whole_tokens}
-
-copies : (n d : ℕ) → 0 < d → magnitude (ratio (pos n) d).num * d ≡ n * (ratio (pos n) d).den
-copies n d p =
-    let q : ℚ = ratio (pos n) d in
-    omega (arith, same_out _ _ (ratio-is (pos n) d p), product_is q.num (pos d), product_is (pos n) (pos q.den))
-
-denominator_most : (n d : ℕ) → 0 < d → (ratio (pos n) d).den ≤ d
-denominator_most n d p =
-    let q : ℚ = ratio (pos n) d in
-    elim (cases_lt d q.den) [
-      | inl l ↦ absurd (q.lowest d p l (let s : d * magnitude q.num ≡ n * q.den = omega (arith, copies n d p) in ap (λ x. x % q.den) s ∙ mul-mod_left n q.den))
-      | inr l ↦ l
-    ]
-
--- where m / d is n / e, and e is at most d
-numerator_below : (m n d e : ℕ) → 0 < d → m * d ≡ n * e → e ≤ d → m ≤ n
-numerator_below m n d e p s l = elim (cases_lt n m) [
-  | inl less ↦ absurd (omega (arith, mul-le-mul_right d less, mul-le-mul_left n l))
-  | inr most ↦ most
-]
 
 -- a number without a sign, and its parts
 pub record IsLow (q : ℚ) (n d : ℕ) : Type 0 where
