@@ -1,19 +1,27 @@
 -- What each step of the decision says of the answer.
-use Rattle.std.proofs.Common.{◌≡◌, ◌≢◌, ◌<◌, ◌≤◌, ◌+◌, ◌^◌, ℕ, List, Bool, true, false, cond, length, nat_lt, Option, Some, None, refl, sym, inl, inr, arith}
+use Rattle.std.proofs.Common.{◌≡◌, ◌≢◌, ◌<◌, ◌≤◌, ◌+◌, ◌^◌, ℕ, List, Bool, true, false, cond, length, nat_lt, Option, Some, None, Result, Ok, Err, IfOk, refl, sym, subst, inl, inr, arith}
 use Rattle.std.proofs.lemmas.Bool.{ltb-false}
 use Rattle.hp_ast.specs.declared.limit.Limit.{Limit as LimitOf}
+use Rattle.hp_ast.specs.declared.limit.Which.TheVariants.{Names}
 use Rattle.hp_ast.specs.declared.problem.Problem.{Problem}
 use Rattle.hp_bounds.proofs.Bounds as bounds
-use Rattle.hp_norm.specs.Ground.{IsLight}
+use Rattle.hp_norm.specs.Ground.{IsIndexProblem, IsLight}
+use Rattle.hp_roundtrip.specs.Law.{Reprints}
+use Rattle.hp_scope.specs.Laws.{IsIdxProblem}
+use Rattle.hp_scope.proofs.Scope.{scope_by_sorts}
+use Rattle.hp_solve.specs.Solved.{IsInScope}
 use Rattle.hp_sorts.specs.declared.fault.SortErr.{SortErr}
 use Rattle.hp_sorts.specs.declared.fault.SortErr.TheVariants.{Twice, Level, Unknown, Arity, Mismatch, Memory}
 use Rattle.hp_sorts.specs.Faults.{IsCause}
-use Rattle.hp_sorts.specs.Limits.{passed}
+use Rattle.hp_sorts.specs.Limits.{limit as limit_of, passed}
+use Rattle.hp_cli.specs.declared.answer.Status.{Status}
 use Rattle.hp_cli.specs.declared.answer.Status.TheVariants.{Spelling, Limit}
+use Rattle.hp_cli.specs.declared.deciding.Answer.{Answer}
 use Rattle.hp_cli.specs.declared.words.Task.{Task}
 use Rattle.hp_cli.specs.declared.words.Task.TheVariants.{Solve, Print}
-use Rattle.hp_cli.specs.Answer.{Does}
-use Rattle.hp_cli.specs.Verdicts.{IsCounted, IsRead, Misspelled, TooLong}
+use Rattle.hp_cli.specs.Answer.{Does, Solves}
+use Rattle.hp_cli.specs.Refusals.{limit_text}
+use Rattle.hp_cli.specs.Verdicts.{InScope, IsCounted, IsRead, Misspelled, Printed, TooLong}
 
 -- ---- every task
 pub misspelled : (task : Task) (bytes text : List ℕ) → Misspelled bytes text → Does task bytes text Spelling
@@ -46,3 +54,31 @@ is_fault fault (Unknown item) h n = h
 is_fault fault (Arity item) h n = h
 is_fault fault (Mismatch item) h n = h
 is_fault fault Memory h n = absurd (n refl)
+
+-- the printed text of a problem that was read
+pub printed_again : (bytes text : List ℕ) → length bytes ≤ 1048576 → Reprints bytes text → Printed bytes text
+printed_again bytes text size r = record {
+  problem = r.problem;
+  read = record { size = size; spelled = r.spelled };
+  written = r.printed;
+  respelled = r.respelled;
+}
+
+-- ---- what the forms of a well-sorted problem say of its sorts
+pub idx_problem : (bytes : List ℕ) (p : Problem) → IsCounted bytes p → IsIndexProblem p → IsIdxProblem p
+idx_problem bytes p c index = (scope_by_sorts p c.sorted.sorted).0 index
+
+pub no_idx_problem : (bytes : List ℕ) (p : Problem) → IsCounted bytes p → (IsIndexProblem p → ⊥) → IsIdxProblem p → ⊥
+no_idx_problem bytes p c other idx = other ((scope_by_sorts p c.sorted.sorted).1 idx)
+
+pub in_scope : (bytes : List ℕ) (p : Problem) → IsCounted bytes p → IsInScope p → InScope bytes p
+in_scope bytes p c s = record { counted = c; index = idx_problem bytes p c s.index; names = s.names }
+
+-- the answer for too many constants, where there is one
+pub too_many_names : {E : Type 0} (most : ℕ) (bytes : List ℕ) (p : Problem) → IsCounted bytes p → IsIndexProblem p → 4000 < length p.decls
+    → (r : Result Answer E) → IfOk r (λ answer. (answer.status ≡ Limit) × (answer.text ≡ limit_text (limit_of Names 4000)))
+    → IfOk r (λ answer. Solves most bytes answer.text answer.status)
+too_many_names most bytes p c index size (Ok answer) h =
+    subst (λ (s : Status). Solves most bytes answer.text s) (sym h.0)
+    (inr (inr (record { problem = p; counted = c; index = idx_problem bytes p c index; size = size; written = h.1 })))
+too_many_names most bytes p c index size (Err e) h = h

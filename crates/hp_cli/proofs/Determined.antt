@@ -7,7 +7,7 @@ use Rattle.hp_faults.proofs.Faults.{one_fault}
 use Rattle.hp_read.proofs.BytesLaws.{no_fault, one_problem}
 use Rattle.hp_sorts.specs.Faults.{sort_fault}
 use Rattle.hp_sorts.specs.Limits.{passed}
-use Rattle.hp_norm.specs.Ground.{IsIndexProblem}
+use Rattle.hp_scope.specs.Laws.{IsIdxProblem}
 use Rattle.hp_cli.specs.declared.answer.Status.{Status}
 use Rattle.hp_cli.specs.declared.answer.Status.TheVariants.{Done, Usage, ReadFault, WriteFault, Spelling, Sort, Limit, Sat, Spent, Memory, NotBuilt, Unsat}
 use Rattle.hp_cli.specs.declared.words.Task.{Task}
@@ -58,9 +58,9 @@ solve_ends most bytes text Limit (inl h) = long h
 solve_ends most bytes text Limit (inr (inl h)) = many h
 solve_ends most bytes text Limit (inr (inr h)) = names h
 solve_ends most bytes text NotBuilt h = form h
-solve_ends most bytes text Sat h = verdict h.problem Sat h.scope (λ d. d)
-solve_ends most bytes text Unsat h = verdict h.problem Unsat h.scope (λ d. d)
-solve_ends most bytes text Spent h = verdict h.problem Spent h.scope (λ d. d)
+solve_ends most bytes text Sat h = verdict h.problem Sat h.scope (λ d. d tt)
+solve_ends most bytes text Unsat h = verdict h.problem Unsat h.scope (λ d. d tt)
+solve_ends most bytes text Spent h = verdict h.problem Spent h.scope (λ d. d tt)
 solve_ends most bytes text Done h = absurd h
 solve_ends most bytes text Usage h = absurd h
 solve_ends most bytes text ReadFault h = absurd h
@@ -118,10 +118,10 @@ module _ (bytes text other : List ℕ) where
   names_or_few : (p : Problem) → TooManyNames bytes text → InScope bytes p → ⊥
   names_or_few p a s =
       let same = one_read a.problem p a.counted.sorted.read s.counted.sorted.read in
-      omega (arith, subst (λ (q : Problem). 4000 < length q.decls) same a.size, s.scope.names)
+      omega (arith, subst (λ (q : Problem). 4000 < length q.decls) same a.size, s.names)
 
-  index_or_other : (p q : Problem) → IsCounted bytes p → IsCounted bytes q → IsIndexProblem p → (IsIndexProblem q → ⊥) → ⊥
-  index_or_other p q c d is not_index = not_index (subst IsIndexProblem (one_read p q c.sorted.read d.sorted.read) is)
+  index_or_other : (p q : Problem) → IsCounted bytes p → IsCounted bytes q → IsIdxProblem p → (IsIdxProblem q → ⊥) → ⊥
+  index_or_other p q c d is not_index = not_index (subst IsIdxProblem (one_read p q c.sorted.read d.sorted.read) is)
 
   -- ---- one end
   one_print_end : (s t : Status) → PrintEnds bytes text s → PrintEnds bytes other t → (s ≡ t) × (text ≡ other)
@@ -177,7 +177,7 @@ module _ (bytes text other : List ℕ) where
   one_solve_end _ _ (form a) (many b) d = absurd (counted_or_many a.problem a.counted b)
   one_solve_end _ _ (form a) (names b) d = absurd (index_or_other b.problem a.problem b.counted a.counted b.index a.other)
   one_solve_end _ _ (form a) (form b) d = (refl, a.written ∙ sym b.written)
-  one_solve_end _ _ (form a) (verdict q t b n) d = absurd (index_or_other q a.problem b.counted a.counted b.scope.index a.other)
+  one_solve_end _ _ (form a) (verdict q t b n) d = absurd (index_or_other q a.problem b.counted a.counted b.index a.other)
   one_solve_end s t (verdict p _ a n) b d = absurd (n d)
 
 -- ---- words

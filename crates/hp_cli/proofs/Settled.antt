@@ -5,7 +5,7 @@ use Rattle.hp_ast.specs.declared.problem.Problem.{Problem}
 use Rattle.hp_read.proofs.BytesLaws.{no_fault, one_problem}
 use Rattle.hp_sorts.specs.Faults.{sort_fault}
 use Rattle.hp_sorts.specs.Limits.{passed}
-use Rattle.hp_norm.specs.Ground.{IsIndexProblem}
+use Rattle.hp_scope.specs.Laws.{IsIdxProblem}
 use Rattle.hp_cli.specs.declared.answer.Status.{Status}
 use Rattle.hp_cli.specs.declared.answer.Status.TheVariants.{Done, Usage, ReadFault, WriteFault, Spelling, Sort, Limit, Sat, Spent, Memory, NotBuilt, Unsat}
 use Rattle.hp_cli.specs.declared.words.Task.{Task}
@@ -50,13 +50,13 @@ module _ (bytes text : List ℕ) (p : Problem) (scope : InScope bytes p) where
   no_names : TooManyNames bytes text → ⊥
   no_names m =
       let same = one_problem bytes p m.problem scope.counted.sorted.read.spelled m.counted.sorted.read.spelled in
-      let few = subst (λ (q : Problem). length q.decls ≤ 4000) same scope.scope.names in
+      let few = subst (λ (q : Problem). length q.decls ≤ 4000) same scope.names in
       omega (arith, m.size, few)
 
   no_other_form : IsNotBuilt bytes text → ⊥
   no_other_form m =
       let same = one_problem bytes p m.problem scope.counted.sorted.read.spelled m.counted.sorted.read.spelled in
-      m.other (subst IsIndexProblem same scope.scope.index)
+      m.other (subst IsIdxProblem same scope.index)
 
   solves_settled : (most : ℕ) (s : Status) → Solves most bytes text s → IsSettled s
   solves_settled most Spelling h = absurd (no_misspelling h)

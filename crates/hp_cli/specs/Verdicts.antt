@@ -21,8 +21,8 @@ use Rattle.hp_cert.specs.declared.refutation.Refutation.{Refutation}
 use Rattle.hp_cert.specs.Entries.{AreSplitLines, all_defs}
 use Rattle.hp_cert.specs.Refutation.{refutation_text}
 use Rattle.hp_cert.specs.Refutes.{Refutes}
-use Rattle.hp_norm.specs.Ground.{IsGroundOf, IsIndexProblem}
-use Rattle.hp_solve.specs.Solved.{IsInScope}
+use Rattle.hp_norm.specs.Ground.{IsGroundOf}
+use Rattle.hp_scope.specs.Laws.{IsIdxProblem}
 use Rattle.hp_cli.specs.Refusals.{line, limit_text, not_built_text, sort_text, spelling_text}
 
 -- ---- how far an input comes
@@ -41,10 +41,12 @@ pub record IsCounted (bytes : List ℕ) (p : Problem) : Type 0 where
   pub sorted : IsSorted bytes p
   pub counted : passed p ≡ None
 
--- a problem over at most 4,000 index constants: the texts that get a verdict
+-- It declares constants of sort idx alone, at most 4,000 of them, no clause has variables, and each atom is of sort
+-- idx: the texts that get a verdict.
 pub record InScope (bytes : List ℕ) (p : Problem) : Type 0 where
   pub counted : IsCounted bytes p
-  pub scope : IsInScope p
+  pub index : IsIdxProblem p
+  pub names : length p.decls ≤ 4000
 
 -- ---- refusals
 pub record Misspelled (bytes text : List ℕ) : Type 0 where
@@ -78,7 +80,7 @@ pub record TooMany (bytes text : List ℕ) : Type 0 where
 pub record TooManyNames (bytes text : List ℕ) : Type 0 where
   pub problem : Problem
   pub counted : IsCounted bytes problem
-  pub index : IsIndexProblem problem
+  pub index : IsIdxProblem problem
   pub size : 4000 < length problem.decls
   pub written : text ≡ limit_text (limit Names 4000)
 
@@ -87,14 +89,16 @@ pub record TooManyNames (bytes text : List ℕ) : Type 0 where
 pub record IsNotBuilt (bytes text : List ℕ) : Type 0 where
   pub problem : Problem
   pub counted : IsCounted bytes problem
-  pub other : IsIndexProblem problem → ⊥
+  pub other : IsIdxProblem problem → ⊥
   pub written : text ≡ not_built_text
 
 -- ---- answers
+-- the text is the printed text of the problem, and spells it too
 pub record Printed (bytes text : List ℕ) : Type 0 where
   pub problem : Problem
   pub read : IsRead bytes problem
   pub written : text ≡ problem_text problem
+  pub respelled : Spells text problem
 
 -- the text is a structure that satisfies the problem
 pub record Satisfiable (bytes text : List ℕ) : Type 0 where

@@ -6,7 +6,7 @@ ghost use Rattle.hp_cert.specs.Refutation.{refutation_text};
 ghost use Rattle.hp_model.specs.Written.{structure_text};
 ghost use Rattle.hp_read.specs.Spells.{IsFault};
 ghost use Rattle.hp_sorts.specs.Limits.{limit as limit_of};
-ghost use Rattle.hp_cli.specs.Answer.{Does, Solves};
+ghost use Rattle.hp_cli.specs.Answer.{Does, Prints, Solves};
 ghost use Rattle.hp_cli.specs.Refusals.{limit_text, line};
 ghost use Rattle.hp_cli.specs.Verdicts.{IsCounted, IsRead};
 ghost use Rattle.hp_cli.specs.Words.{IsTask};
@@ -14,11 +14,12 @@ ghost use Rattle.hp_cli.specs.Words.{IsTask};
 use crate::answer::Status;
 use crate::refusals;
 use crate::words::Task;
-use hp_ast::{Limit, Problem, Which, print};
+use hp_ast::{Limit, Problem, Which};
 use hp_cert::{Refutation, body, write};
 use hp_model::{Structure, write_structure};
 use hp_num::Text;
 use hp_read::{ReadErr, read};
+use hp_roundtrip::reprint;
 use hp_solve::{Solved, solve};
 use hp_sorts::{SortErr, check, counts};
 use hp_text::put_whole;
@@ -103,15 +104,26 @@ pub fn decide(alloc: Global, bytes: &[u8], task: Task) -> Result<Answer, AllocEr
     requires most { IsTask task }
     ensures { IfOk result (λ answer. Does task bytes.now answer.text answer.status) }
 {
-    match read(alloc, bytes) {
-        Err(fault) => misspelled(alloc, bytes, fault, task),
-        Ok(problem) => match task {
-            Task::Print => Ok(Answer {
-                text: print(alloc, &problem)?,
-                status: Status::Done,
-            }),
-            Task::Solve(most) => check_and_solve(alloc, bytes, &problem, most),
+    match task {
+        Task::Print => print_again(alloc, bytes),
+        Task::Solve(most) => match read(alloc, bytes) {
+            Err(fault) => misspelled(alloc, bytes, fault, task),
+            Ok(problem) => check_and_solve(alloc, bytes, &problem, most),
         },
+    }
+}
+
+/// The answer by the printed text of the problem that the input spells.
+fn print_again(alloc: Global, bytes: &[u8]) -> Result<Answer, AllocError>
+    requires size { length bytes.now ≤ 1048576 }
+    ensures { IfOk result (λ answer. Prints bytes.now answer.text answer.status) }
+{
+    match reprint(alloc, bytes) {
+        Err(fault) => misspelled(alloc, bytes, fault, Task::Print),
+        Ok(text) => Ok(Answer {
+            text,
+            status: Status::Done,
+        }),
     }
 }
 

@@ -1,5 +1,5 @@
 use Rattle.std.proofs.Common.{◌<◌, arith}
-use Rattle.hp_cli.proofs.Decisions.{few_items, is_light}
+use Rattle.hp_cli.proofs.Decisions.{few_items, in_scope, is_light, no_idx_problem, too_many_names}
 use Rattle.hp_cli.proofs.deciding.settle.Goals as goal
 
 pub solve-requires-clause-declarations : goal.solve-requires-clause-declarations
@@ -7,3 +7,48 @@ solve-requires-clause-declarations c = omega (arith, few_items c.args.bytes.now 
 
 pub solve-requires-clause-light : goal.solve-requires-clause-light
 solve-requires-clause-light c = is_light c.args.bytes.now c.args.problem.now c.requires.counted.sorted.read
+
+pub returns-in_ok-not_built-in-Other : goal.returns-in_ok-not_built-in-Other
+returns-in_ok-not_built-in-Other c = record {
+  problem = c.args.problem.now;
+  counted = c.requires.counted;
+  other = no_idx_problem c.args.bytes.now c.args.problem.now c.requires.counted c.in-Other.ensures;
+  written = c.in_ok-not_built-in-Other.ensures;
+}
+
+pub returns-in-ManyNames : goal.returns-in-ManyNames
+returns-in-ManyNames c = too_many_names c.args.most c.args.bytes.now c.args.problem.now c.requires.counted c.in-ManyNames.ensures.0 c.in-ManyNames.ensures.1 c.many_names.result c.many_names.ensures
+
+pub returns-in_ok-sat_text-in-Sat : goal.returns-in_ok-sat_text-in-Sat
+returns-in_ok-sat_text-in-Sat c = record {
+  problem = c.args.problem.now;
+  scope = in_scope c.args.bytes.now c.args.problem.now c.requires.counted c.in-Sat.ensures.scope;
+  structure = c.in-Sat.structure;
+  satisfied = c.in-Sat.ensures.satisfied;
+  written = c.in_ok-sat_text-in-Sat.ensures;
+}
+
+pub returns-in_ok-unsat_text-in-Unsat : goal.returns-in_ok-unsat_text-in-Unsat
+returns-in_ok-unsat_text-in-Unsat c = record {
+  problem = c.args.problem.now;
+  scope = in_scope c.args.bytes.now c.args.problem.now c.requires.counted c.in-Unsat.ensures.scope;
+  lines = c.in-Unsat.ensures.lines;
+  ground = c.in-Unsat.ensures.ground;
+  refutation = c.in-Unsat.refutation;
+  refuted = c.in-Unsat.ensures.refuted;
+  none = c.in-Unsat.ensures.none;
+  written = c.in_ok-unsat_text-in-Unsat.ensures;
+}
+
+pub returns-in_ok-spent_text-in-Spent : goal.returns-in_ok-spent_text-in-Spent
+returns-in_ok-spent_text-in-Spent c = record {
+  problem = c.args.problem.now;
+  scope = in_scope c.args.bytes.now c.args.problem.now c.requires.counted c.in-Spent.ensures.scope;
+  lines = c.in-Spent.ensures.lines;
+  ground = c.in-Spent.ensures.ground;
+  listing = c.in-Spent.listing;
+  honest = c.in-Spent.ensures.honest;
+  defs = c.in-Spent.ensures.defs;
+  listed = c.in-Spent.ensures.listed;
+  written = c.in_ok-spent_text-in-Spent.ensures;
+}
