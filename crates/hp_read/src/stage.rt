@@ -6,7 +6,7 @@ ghost use Rattle.hp_read.specs.Given.{Gives};
 ghost use Rattle.hp_read.specs.Moves.{Moves};
 ghost use Rattle.hp_read.specs.Machine.{◌and_then◌};
 ghost use Rattle.hp_read.specs.BodyMachine.{body_end};
-ghost use Rattle.hp_read.specs.Stages.{constants_end};
+ghost use Rattle.hp_read.specs.Stages.{constants_end, variables_step};
 ghost use Rattle.hp_read.specs.declared.stage.Stage.TheVariants.{Whole};
 ghost use Rattle.hp_read.specs.Problems.{clause_of};
 ghost use Rattle.hp_read.specs.Top.{started, ends_with as ends_with_kind, declaration as declaration_at, between as between_at, item_goes, at_start, at_profile, at_numbered, at_whole, at_clause, constants_stage, function_stage, variables_stage, body_stage, stage_step, top_step, at, top_end, with_item, with_declarations, is_whole as is_whole_stage};
@@ -74,26 +74,31 @@ fn ends_with(symbol: &Symbol, kind: Kind) -> bool
 }
 
 /// A declaration begins, before which no item stands.
-fn declaration(made: &Problem, stage: Stage) -> Result<Stage, Stop>
-    ensures { Gives (λ s. at made.now s) result (declaration_at made.now made.now.clauses stage) }
+fn declaration(made: &Problem, stage: &mut Stage, next: Stage) -> Result<(), Stop>
+    ensures { Moves (at made.now stage.new) result (declaration_at made.now made.now.clauses next) }
 {
     match made.clauses.as_slice() {
-        [] => Ok(stage),
+        [] => {
+            *stage = next;
+            Ok(())
+        }
         [..] => Err(Stop::Refused),
     }
 }
 
 /// An item begins.
 #[tactic(auto, unfolding(crate::specs::Top::item_goes))]
-fn item(alloc: Global, made: &Problem, kind: Kind) -> Result<Stage, Stop>
-    ensures { Gives (λ s. at made.now s) result (item_goes made.now kind) }
+fn item(alloc: Global, made: &Problem, stage: &mut Stage, kind: Kind) -> Result<(), Stop>
+    ensures { Moves (at made.now stage.new) result (item_goes made.now kind) }
 {
     let _made = made;
     if same(kind, Kind::Clause) {
-        Ok(Stage::Clause)
+        *stage = Stage::Clause;
+        Ok(())
     } else if same(kind, Kind::Query) {
         let body = Place::First.begun(alloc);
-        Ok(Stage::Body(true, List::new(alloc), body))
+        *stage = Stage::Body(true, List::new(alloc), body);
+        Ok(())
     } else {
         Err(Stop::Refused)
     }
@@ -101,30 +106,32 @@ fn item(alloc: Global, made: &Problem, kind: Kind) -> Result<Stage, Stop>
 
 /// A declaration or an item begins.
 #[tactic(auto, unfolding(crate::specs::Top::between))]
-fn between(alloc: Global, made: &Problem, kind: Kind) -> Result<Stage, Stop>
-    ensures { Gives (λ s. at made.now s) result (between_at made.now kind) }
+fn between(alloc: Global, made: &Problem, stage: &mut Stage, kind: Kind) -> Result<(), Stop>
+    ensures { Moves (at made.now stage.new) result (between_at made.now kind) }
 {
     if same(kind, Kind::Const) {
         let names = Constants::Name(List::new(alloc));
-        declaration(made, Stage::Constants(names))
+        declaration(made, stage, Stage::Constants(names))
     } else if same(kind, Kind::Fun) {
-        declaration(made, Stage::Function(Function::Name))
+        declaration(made, stage, Stage::Function(Function::Name))
     } else {
-        item(alloc, made, kind)
+        item(alloc, made, stage, kind)
     }
 }
 
 /// The first token of the text.
+#[inline(never)]
 #[tactic(auto, unfolding(crate::specs::Top::at_start))]
-fn start(alloc: Global, made: &Problem, symbol: Symbol) -> Result<Stage, Stop>
-    ensures { Gives (λ s. at made.now s) result (at_start made.now symbol) }
+fn start(alloc: Global, made: &Problem, stage: &mut Stage, symbol: Symbol) -> Result<(), Stop>
+    ensures { Moves (at made.now stage.new) result (at_start made.now symbol) }
 {
     match symbol {
         Symbol::Word(kind) => {
             if same(kind, Kind::Profile) {
-                Ok(Stage::Profile)
+                *stage = Stage::Profile;
+                Ok(())
             } else {
-                between(alloc, made, kind)
+                between(alloc, made, stage, kind)
             }
         }
         Symbol::Name(_) | Symbol::Numeral(_) => Err(Stop::Refused),
@@ -133,14 +140,15 @@ fn start(alloc: Global, made: &Problem, symbol: Symbol) -> Result<Stage, Stop>
 
 /// Behind `profile`, where the number 1 may stand.
 #[tactic(auto, unfolding(crate::specs::Top::at_profile))]
-fn profile(made: &Problem, symbol: Symbol) -> Result<Stage, Stop>
-    ensures { Gives (λ s. at made.now s) result (at_profile made.now symbol) }
+fn profile(made: &Problem, stage: &mut Stage, symbol: Symbol) -> Result<(), Stop>
+    ensures { Moves (at made.now stage.new) result (at_profile made.now symbol) }
 {
     let _made = made;
     match symbol {
         Symbol::Numeral(n) => {
             if n == 1 {
-                Ok(Stage::Numbered)
+                *stage = Stage::Numbered;
+                Ok(())
             } else {
                 Err(Stop::Refused)
             }
@@ -151,24 +159,26 @@ fn profile(made: &Problem, symbol: Symbol) -> Result<Stage, Stop>
 
 /// Behind the number of the profile.
 #[tactic(auto, unfolding(crate::specs::Top::at_numbered))]
-fn numbered(made: &Problem, symbol: Symbol) -> Result<Stage, Stop>
-    ensures { Gives (λ s. at made.now s) result (at_numbered made.now symbol) }
+fn numbered(made: &Problem, stage: &mut Stage, symbol: Symbol) -> Result<(), Stop>
+    ensures { Moves (at made.now stage.new) result (at_numbered made.now symbol) }
 {
     let _made = made;
     if ends_with(&symbol, Kind::Semicolon) {
-        Ok(Stage::Whole)
+        *stage = Stage::Whole;
+        Ok(())
     } else {
         Err(Stop::Refused)
     }
 }
 
 /// Behind a declaration or an item.
+#[inline(never)]
 #[tactic(auto, unfolding(crate::specs::Top::at_whole))]
-fn whole(alloc: Global, made: &Problem, symbol: Symbol) -> Result<Stage, Stop>
-    ensures { Gives (λ s. at made.now s) result (at_whole made.now symbol) }
+fn whole(alloc: Global, made: &Problem, stage: &mut Stage, symbol: Symbol) -> Result<(), Stop>
+    ensures { Moves (at made.now stage.new) result (at_whole made.now symbol) }
 {
     match symbol {
-        Symbol::Word(kind) => between(alloc, made, kind),
+        Symbol::Word(kind) => between(alloc, made, stage, kind),
         Symbol::Name(_) | Symbol::Numeral(_) => Err(Stop::Refused),
     }
 }
@@ -184,6 +194,7 @@ fn end_of_constants(alloc: Global, made: &mut Problem, constants: Constants) -> 
 }
 
 /// In a line of constants.
+#[inline(never)]
 #[tactic(auto, unfolding(crate::specs::Top::constants_stage))]
 fn in_constants(
     alloc: Global,
@@ -203,6 +214,7 @@ fn in_constants(
 }
 
 /// In the declaration of a function.
+#[inline(never)]
 #[tactic(auto, unfolding(crate::specs::Top::function_stage))]
 fn in_function(
     alloc: Global,
@@ -224,36 +236,25 @@ fn in_function(
 
 /// Behind `clause`.
 #[tactic(auto, unfolding(crate::specs::Top::at_clause))]
-fn clause(made: &Problem, symbol: Symbol) -> Result<Stage, Stop>
-    ensures { Gives (λ s. at made.now s) result (at_clause made.now symbol) }
+fn clause(made: &Problem, stage: &mut Stage, symbol: Symbol) -> Result<(), Stop>
+    ensures { Moves (at made.now stage.new) result (at_clause made.now symbol) }
 {
     let _made = made;
     if ends_with(&symbol, Kind::OpenSquare) {
-        Ok(Stage::Variables(Variables::First))
+        *stage = Stage::Variables(Variables::First);
+        Ok(())
     } else {
         Err(Stop::Refused)
     }
 }
 
 /// In a list of variables.
-#[tactic(auto, unfolding(crate::specs::Top::variables_stage))]
-fn in_variables(
-    alloc: Global,
-    made: &Problem,
-    variables: Variables,
-    symbol: Symbol,
-) -> Result<Stage, Stop>
-    ensures { Gives (λ s. at made.now s) result (variables_stage made.now variables symbol) }
+fn in_variables(alloc: Global, variables: &mut Variables, symbol: Symbol) -> Result<(), Stop>
+    ensures { Moves variables.new result (variables_step variables.old symbol) }
 {
-    let _made = made;
-    if ends_with(&symbol, Kind::CloseSquare) {
-        let vars = variables.end(alloc)?;
-        let body = Place::First.begun(alloc);
-        Ok(Stage::Body(false, vars, body))
-    } else {
-        let variables = variables.step(alloc, symbol)?;
-        Ok(Stage::Variables(variables))
-    }
+    let behind = mem::replace(variables, Variables::First).step(alloc, symbol)?;
+    *variables = behind;
+    Ok(())
 }
 
 /// The end of a body.
@@ -261,90 +262,63 @@ fn end_of_body(
     alloc: Global,
     made: &mut Problem,
     query: bool,
-    vars: List<Var>,
-    body: Body,
+    vars: &mut List<Var>,
+    body: &mut Body,
 ) -> Result<(), Stop>
-    ensures { Moves (at made.new Whole) result (body_end body and_then λ r. Some (with_item made.old (clause_of query vars r.0 r.1))) }
+    ensures { Moves (at made.new Whole) result (body_end body.old and_then λ r. Some (with_item made.old (clause_of query vars.old r.0 r.1))) }
 {
     let sides = body.end(alloc)?;
     made.clauses.push(Clause {
         query,
-        vars,
+        vars: mem::replace(vars, List::new(alloc)),
         guard: sides.guard,
         head: sides.head,
     })?;
     Ok(())
 }
 
-/// In a body.
-#[tactic(auto, unfolding(crate::specs::Top::body_stage))]
-fn in_body(
-    alloc: Global,
-    made: &mut Problem,
-    query: bool,
-    vars: List<Var>,
-    mut body: Body,
-    symbol: Symbol,
-) -> Result<Stage, Stop>
-    ensures { Gives (λ s. at made.new s) result (body_stage made.old query vars body symbol) }
-{
-    if ends_with(&symbol, Kind::Semicolon) {
-        end_of_body(alloc, made, query, vars, body)?;
-        Ok(Stage::Whole)
-    } else {
-        body.step(alloc, symbol)?;
-        Ok(Stage::Body(query, vars, body))
-    }
-}
-
 impl Stage {
-    /// The text behind one more token. Its many locals are kept out of the frames of its callers.
-    #[inline(never)]
-    fn turn(self, alloc: Global, made: &mut Problem, symbol: Symbol) -> Result<Stage, Stop>
-        ensures { Gives (λ s. at made.new s) result (stage_step made.old self symbol) }
-    {
-        match self {
-            Stage::Start => start(alloc, made, symbol),
-            Stage::Profile => profile(made, symbol),
-            Stage::Numbered => numbered(made, symbol),
-            Stage::Whole => whole(alloc, made, symbol),
-            Stage::Constants(constants) => in_constants(alloc, made, constants, symbol),
-            Stage::Function(function) => in_function(alloc, made, function, symbol),
-            Stage::Clause => clause(made, symbol),
-            Stage::Variables(variables) => in_variables(alloc, made, variables, symbol),
-            Stage::Body(query, vars, body) => in_body(alloc, made, query, vars, body, symbol),
-        }
-    }
-
-    /// The text goes behind one more token. What comes most goes on in its place, since a stage is too large to be moved at each token.
+    /// The text goes behind one more token, in its place, since a stage is too large to be moved at each token. What comes seldom is
+    /// kept out of line, with its many locals.
     #[tactic(auto, unfolding(crate::specs::Top::body_stage, crate::specs::Top::variables_stage))]
     fn step(&mut self, alloc: Global, made: &mut Problem, symbol: Symbol) -> Result<(), Stop>
         ensures { Moves (at made.new self.new) result (stage_step made.old self.old symbol) }
     {
         match self {
-            Stage::Body(_query, _vars, body) => {
+            Stage::Body(query, vars, body) => {
                 if !ends_with(&symbol, Kind::Semicolon) {
                     return body.step(alloc, symbol);
                 }
+                end_of_body(alloc, made, *query, vars, body)?;
+                *self = Stage::Whole;
+                Ok(())
             }
             Stage::Variables(variables) => {
                 if !ends_with(&symbol, Kind::CloseSquare) {
-                    let behind = mem::replace(variables, Variables::First).step(alloc, symbol)?;
-                    *variables = behind;
-                    return Ok(());
+                    return in_variables(alloc, variables, symbol);
                 }
+                let vars = mem::replace(variables, Variables::First).end(alloc)?;
+                *self = Stage::Body(false, vars, Place::First.begun(alloc));
+                Ok(())
             }
-            Stage::Whole => {
-                let stage = whole(alloc, made, symbol)?;
+            Stage::Constants(constants) => {
+                let before = mem::replace(constants, Constants::Name(List::new(alloc)));
+                let stage = in_constants(alloc, made, before, symbol)?;
                 *self = stage;
-                return Ok(());
+                Ok(())
             }
-            _ => {}
+            Stage::Function(function) => {
+                let before = mem::replace(function, Function::Name);
+                let stage = in_function(alloc, made, before, symbol)?;
+                *self = stage;
+                Ok(())
+            }
+            Stage::Start => start(alloc, made, self, symbol),
+            Stage::Profile => profile(made, self, symbol),
+            Stage::Numbered => numbered(made, self, symbol),
+            Stage::Whole => whole(alloc, made, self, symbol),
+            Stage::Clause => clause(made, self, symbol),
         }
-        let stage = mem::replace(self, Stage::Whole);
-        let stage = stage.turn(alloc, made, symbol)?;
-        *self = stage;
-        Ok(())
     }
 
     /// Whether the text may end here.

@@ -13,15 +13,9 @@ use hp_ast::Term;
 use hp_text::Kind;
 use sqlite_items::Boxed;
 use std::alloc::Global;
-use std::mem;
 
 /// Behind `)`, which ends a group or the arguments of a function.
-fn shut(
-    alloc: Global,
-    term: Boxed<Term>,
-    mode: &mut Mode,
-    frames: &mut Stack<Frame>,
-) -> Result<(), Stop>
+fn shut(term: Term, mode: &mut Mode, frames: &mut Stack<Frame>) -> Result<(), Stop>
     ensures { Moves (mode.new, frames.new) result (close term frames.old) }
 {
     match frames.pop() {
@@ -31,21 +25,20 @@ fn shut(
             Ok(())
         }
         Some(Frame::Call(front, number, func, mut args)) => {
-            args.push(term.into_inner())?;
-            let call = call_term(alloc, func, args)?;
-            *mode = Mode::Done(front, number, call);
+            args.push(term)?;
+            *mode = Mode::Done(front, number, call_term(func, args));
             Ok(())
         }
     }
 }
 
 /// Behind `,`, which ends an argument.
-fn next(term: Boxed<Term>, mode: &mut Mode, frames: &mut Stack<Frame>) -> Result<(), Stop>
+fn next(term: Term, mode: &mut Mode, frames: &mut Stack<Frame>) -> Result<(), Stop>
     ensures { Moves (mode.new, frames.new) result (next_argument term frames.old) }
 {
     match frames.pop() {
         Some(Frame::Call(front, number, func, mut args)) => {
-            args.push(term.into_inner())?;
+            args.push(term)?;
             frames.push(Frame::Call(front, number, func, args))?;
             *mode = Mode::Part(Front::Nothing);
             Ok(())
@@ -54,20 +47,13 @@ fn next(term: Boxed<Term>, mode: &mut Mode, frames: &mut Stack<Frame>) -> Result
     }
 }
 
-/// The mode, for which a fresh one is left.
-fn taken(mode: &mut Mode) -> Mode
-    ensures { result ≡ mode.old }
-{
-    mem::replace(mode, Mode::Part(Front::Nothing))
-}
-
 #[tactic(auto, unfolding(crate::specs::Machine::plus_goes))]
 fn plus_sign(alloc: Global, mode: &mut Mode, frames: &mut Stack<Frame>) -> Result<(), Stop>
     ensures { Moves (mode.new, frames.new) result (plus_goes mode.old frames.old) }
 {
     let _frames = frames;
-    let term = taken(mode).end(alloc)?;
-    *mode = Mode::Part(Front::Sum(term));
+    let term = mode.taken().end(alloc)?;
+    *mode = Mode::Part(Front::Sum(Boxed::new(alloc, term)?));
     Ok(())
 }
 
@@ -76,19 +62,15 @@ fn minus_sign(alloc: Global, mode: &mut Mode, frames: &mut Stack<Frame>) -> Resu
     ensures { Moves (mode.new, frames.new) result (minus_goes mode.old frames.old) }
 {
     let _frames = frames;
-    let next = taken(mode).minus(alloc)?;
-    *mode = next;
-    Ok(())
+    mode.minus(alloc)
 }
 
 #[tactic(auto, unfolding(crate::specs::Machine::star_goes))]
-fn star_sign(alloc: Global, mode: &mut Mode, frames: &mut Stack<Frame>) -> Result<(), Stop>
+fn star_sign(mode: &mut Mode, frames: &mut Stack<Frame>) -> Result<(), Stop>
     ensures { Moves (mode.new, frames.new) result (star_goes mode.old frames.old) }
 {
     let _frames = frames;
-    let next = taken(mode).star(alloc)?;
-    *mode = next;
-    Ok(())
+    mode.star()
 }
 
 #[tactic(auto, unfolding(crate::specs::Machine::slash_goes))]
@@ -96,28 +78,23 @@ fn slash_sign(mode: &mut Mode, frames: &mut Stack<Frame>) -> Result<(), Stop>
     ensures { Moves (mode.new, frames.new) result (slash_goes mode.old frames.old) }
 {
     let _frames = frames;
-    let next = taken(mode).slash()?;
-    *mode = next;
-    Ok(())
+    mode.slash()
 }
 
 #[tactic(auto, unfolding(crate::specs::Machine::null_goes))]
-fn null_word(alloc: Global, mode: &mut Mode, frames: &mut Stack<Frame>) -> Result<(), Stop>
+fn null_word(mode: &mut Mode, frames: &mut Stack<Frame>) -> Result<(), Stop>
     ensures { Moves (mode.new, frames.new) result (null_goes mode.old frames.old) }
 {
     let _frames = frames;
-    let next = taken(mode).null(alloc)?;
-    *mode = next;
-    Ok(())
+    mode.null()
 }
 
 #[tactic(auto, unfolding(crate::specs::Machine::open_goes))]
 fn open_sign(alloc: Global, mode: &mut Mode, frames: &mut Stack<Frame>) -> Result<(), Stop>
     ensures { Moves (mode.new, frames.new) result (open_goes mode.old frames.old) }
 {
-    let frame = taken(mode).open(alloc)?;
+    let frame = mode.taken().open(alloc)?;
     frames.push(frame)?;
-    *mode = Mode::Part(Front::Nothing);
     Ok(())
 }
 
@@ -125,15 +102,15 @@ fn open_sign(alloc: Global, mode: &mut Mode, frames: &mut Stack<Frame>) -> Resul
 fn close_sign(alloc: Global, mode: &mut Mode, frames: &mut Stack<Frame>) -> Result<(), Stop>
     ensures { Moves (mode.new, frames.new) result (close_goes mode.old frames.old) }
 {
-    let term = taken(mode).end(alloc)?;
-    shut(alloc, term, mode, frames)
+    let term = mode.taken().end(alloc)?;
+    shut(term, mode, frames)
 }
 
 #[tactic(auto, unfolding(crate::specs::Machine::comma_goes))]
 fn comma_sign(alloc: Global, mode: &mut Mode, frames: &mut Stack<Frame>) -> Result<(), Stop>
     ensures { Moves (mode.new, frames.new) result (comma_goes mode.old frames.old) }
 {
-    let term = taken(mode).end(alloc)?;
+    let term = mode.taken().end(alloc)?;
     next(term, mode, frames)
 }
 
@@ -167,7 +144,7 @@ fn factor_word(
     ensures { Moves (mode.new, frames.new) result (factor_goes kind mode.old frames.old) }
 {
     if same(kind, Kind::Null) {
-        null_word(alloc, mode, frames)
+        null_word(mode, frames)
     } else if same(kind, Kind::OpenRound) {
         open_sign(alloc, mode, frames)
     } else {
@@ -186,7 +163,7 @@ fn number_word(
     ensures { Moves (mode.new, frames.new) result (number_goes kind mode.old frames.old) }
 {
     if same(kind, Kind::Star) {
-        star_sign(alloc, mode, frames)
+        star_sign(mode, frames)
     } else if same(kind, Kind::Slash) {
         slash_sign(mode, frames)
     } else {
