@@ -5,9 +5,10 @@ ghost use Rattle.std.specs.Prelude.{◌≡◌, Option, Some, None};
 ghost use Rattle.hp_read.specs.Given.{Gives};
 ghost use Rattle.hp_read.specs.Moves.{Moves};
 ghost use Rattle.hp_read.specs.Machine.{◌and_then◌};
-ghost use Rattle.hp_read.specs.BodyMachine.{body_end};
+ghost use Rattle.hp_read.specs.BodyMachine.{begun as begun_at, body_end};
 ghost use Rattle.hp_read.specs.Stages.{constants_end, variables_step};
-ghost use Rattle.hp_read.specs.declared.stage.Stage.TheVariants.{Whole};
+ghost use Rattle.hp_read.specs.declared.stage.Stage.TheVariants.{Whole, Body as stage_of_body};
+ghost use Rattle.hp_read.specs.declared.body.Place.TheVariants.{First};
 ghost use Rattle.hp_read.specs.Problems.{clause_of};
 ghost use Rattle.hp_read.specs.Top.{started, ends_with as ends_with_kind, declaration as declaration_at, between as between_at, item_goes, at_start, at_profile, at_numbered, at_whole, at_clause, constants_stage, function_stage, variables_stage, body_stage, stage_step, top_step, at, top_end, with_item, with_declarations, is_whole as is_whole_stage};
 
@@ -96,8 +97,7 @@ fn item(alloc: Global, made: &Problem, stage: &mut Stage, kind: Kind) -> Result<
         *stage = Stage::Clause;
         Ok(())
     } else if same(kind, Kind::Query) {
-        let body = Place::First.begun(alloc);
-        *stage = Stage::Body(true, List::new(alloc), body);
+        stage.begin(alloc, true, List::new(alloc));
         Ok(())
     } else {
         Err(Stop::Refused)
@@ -139,6 +139,7 @@ fn start(alloc: Global, made: &Problem, stage: &mut Stage, symbol: Symbol) -> Re
 }
 
 /// Behind `profile`, where the number 1 may stand.
+#[inline(never)]
 #[tactic(auto, unfolding(crate::specs::Top::at_profile))]
 fn profile(made: &Problem, stage: &mut Stage, symbol: Symbol) -> Result<(), Stop>
     ensures { Moves (at made.now stage.new) result (at_profile made.now symbol) }
@@ -158,6 +159,7 @@ fn profile(made: &Problem, stage: &mut Stage, symbol: Symbol) -> Result<(), Stop
 }
 
 /// Behind the number of the profile.
+#[inline(never)]
 #[tactic(auto, unfolding(crate::specs::Top::at_numbered))]
 fn numbered(made: &Problem, stage: &mut Stage, symbol: Symbol) -> Result<(), Stop>
     ensures { Moves (at made.now stage.new) result (at_numbered made.now symbol) }
@@ -199,17 +201,20 @@ fn end_of_constants(alloc: Global, made: &mut Problem, constants: Constants) -> 
 fn in_constants(
     alloc: Global,
     made: &mut Problem,
+    stage: &mut Stage,
     constants: Constants,
     symbol: Symbol,
-) -> Result<Stage, Stop>
-    ensures { Gives (λ s. at made.new s) result (constants_stage made.old constants symbol) }
+) -> Result<(), Stop>
+    ensures { Moves (at made.new stage.new) result (constants_stage made.old constants symbol) }
 {
     if ends_with(&symbol, Kind::Semicolon) {
         end_of_constants(alloc, made, constants)?;
-        Ok(Stage::Whole)
+        *stage = Stage::Whole;
+        Ok(())
     } else {
         let constants = constants.step(symbol)?;
-        Ok(Stage::Constants(constants))
+        *stage = Stage::Constants(constants);
+        Ok(())
     }
 }
 
@@ -219,22 +224,26 @@ fn in_constants(
 fn in_function(
     alloc: Global,
     made: &mut Problem,
+    stage: &mut Stage,
     function: Function,
     symbol: Symbol,
-) -> Result<Stage, Stop>
-    ensures { Gives (λ s. at made.new s) result (function_stage made.old function symbol) }
+) -> Result<(), Stop>
+    ensures { Moves (at made.new stage.new) result (function_stage made.old function symbol) }
 {
     if ends_with(&symbol, Kind::Semicolon) {
         let decl = function.end()?;
         made.decls.push(decl)?;
-        Ok(Stage::Whole)
+        *stage = Stage::Whole;
+        Ok(())
     } else {
         let function = function.step(alloc, symbol)?;
-        Ok(Stage::Function(function))
+        *stage = Stage::Function(function);
+        Ok(())
     }
 }
 
 /// Behind `clause`.
+#[inline(never)]
 #[tactic(auto, unfolding(crate::specs::Top::at_clause))]
 fn clause(made: &Problem, stage: &mut Stage, symbol: Symbol) -> Result<(), Stop>
     ensures { Moves (at made.now stage.new) result (at_clause made.now symbol) }
@@ -249,6 +258,7 @@ fn clause(made: &Problem, stage: &mut Stage, symbol: Symbol) -> Result<(), Stop>
 }
 
 /// In a list of variables.
+#[inline(never)]
 fn in_variables(alloc: Global, variables: &mut Variables, symbol: Symbol) -> Result<(), Stop>
     ensures { Moves variables.new result (variables_step variables.old symbol) }
 {
@@ -258,6 +268,7 @@ fn in_variables(alloc: Global, variables: &mut Variables, symbol: Symbol) -> Res
 }
 
 /// The end of a body.
+#[inline(never)]
 fn end_of_body(
     alloc: Global,
     made: &mut Problem,
@@ -278,10 +289,26 @@ fn end_of_body(
 }
 
 impl Stage {
-    /// The text goes behind one more token, in its place, since a stage is too large to be moved at each token. What comes seldom is
-    /// kept out of line, with its many locals.
+    /// A body begins, which is a query's or not, behind these variables.
+    #[inline(never)]
+    fn begin(&mut self, alloc: Global, query: bool, vars: List<Var>)
+        ensures { self.new ≡ stage_of_body query vars (begun_at First) }
+    {
+        *self = Stage::Body(query, vars, Place::First.begun(alloc));
+    }
+
+    /// A line is whole.
+    #[inline(never)]
+    fn rest(&mut self)
+        ensures { self.new ≡ Whole }
+    {
+        *self = Stage::Whole;
+    }
+
+    /// The text goes behind one more token, in its place.
+    #[inline(never)]
     #[tactic(auto, unfolding(crate::specs::Top::body_stage, crate::specs::Top::variables_stage))]
-    fn step(&mut self, alloc: Global, made: &mut Problem, symbol: Symbol) -> Result<(), Stop>
+    fn turn(&mut self, alloc: Global, made: &mut Problem, symbol: Symbol) -> Result<(), Stop>
         ensures { Moves (at made.new self.new) result (stage_step made.old self.old symbol) }
     {
         match self {
@@ -290,7 +317,7 @@ impl Stage {
                     return body.step(alloc, symbol);
                 }
                 end_of_body(alloc, made, *query, vars, body)?;
-                *self = Stage::Whole;
+                self.rest();
                 Ok(())
             }
             Stage::Variables(variables) => {
@@ -298,20 +325,16 @@ impl Stage {
                     return in_variables(alloc, variables, symbol);
                 }
                 let vars = mem::replace(variables, Variables::First).end(alloc)?;
-                *self = Stage::Body(false, vars, Place::First.begun(alloc));
+                self.begin(alloc, false, vars);
                 Ok(())
             }
             Stage::Constants(constants) => {
                 let before = mem::replace(constants, Constants::Name(List::new(alloc)));
-                let stage = in_constants(alloc, made, before, symbol)?;
-                *self = stage;
-                Ok(())
+                in_constants(alloc, made, self, before, symbol)
             }
             Stage::Function(function) => {
                 let before = mem::replace(function, Function::Name);
-                let stage = in_function(alloc, made, before, symbol)?;
-                *self = stage;
-                Ok(())
+                in_function(alloc, made, self, before, symbol)
             }
             Stage::Start => start(alloc, made, self, symbol),
             Stage::Profile => profile(made, self, symbol),
@@ -319,6 +342,28 @@ impl Stage {
             Stage::Whole => whole(alloc, made, self, symbol),
             Stage::Clause => clause(made, self, symbol),
         }
+    }
+
+    /// The text goes behind one more token. What comes most stands here alone: the other steps are kept out of line, since each call
+    /// clears a frame of many large locals.
+    #[tactic(auto, unfolding(crate::specs::Top::body_stage, crate::specs::Top::variables_stage))]
+    fn step(&mut self, alloc: Global, made: &mut Problem, symbol: Symbol) -> Result<(), Stop>
+        ensures { Moves (at made.new self.new) result (stage_step made.old self.old symbol) }
+    {
+        match self {
+            Stage::Body(_query, _vars, body) => {
+                if !ends_with(&symbol, Kind::Semicolon) {
+                    return body.step(alloc, symbol);
+                }
+            }
+            Stage::Variables(variables) => {
+                if !ends_with(&symbol, Kind::CloseSquare) {
+                    return in_variables(alloc, variables, symbol);
+                }
+            }
+            _ => {}
+        }
+        self.turn(alloc, made, symbol)
     }
 
     /// Whether the text may end here.
