@@ -1,4 +1,5 @@
 //! Reading a term, token by token.
+//! The steps that handle terms stay out of line: each call clears the large locals of its own frame alone.
 
 ghost use Rattle.std.specs.Prelude.{◌≡◌, Option, Some, None};
 ghost use Rattle.hp_read.specs.Moves.{Moves};
@@ -47,6 +48,7 @@ fn next(term: Term, mode: &mut Mode, frames: &mut Stack<Frame>) -> Result<(), St
     }
 }
 
+#[inline(never)]
 #[tactic(auto, unfolding(crate::specs::Machine::plus_goes))]
 fn plus_sign(alloc: Global, mode: &mut Mode, frames: &mut Stack<Frame>) -> Result<(), Stop>
     ensures { Moves (mode.new, frames.new) result (plus_goes mode.old frames.old) }
@@ -57,6 +59,7 @@ fn plus_sign(alloc: Global, mode: &mut Mode, frames: &mut Stack<Frame>) -> Resul
     Ok(())
 }
 
+#[inline(never)]
 #[tactic(auto, unfolding(crate::specs::Machine::minus_goes))]
 fn minus_sign(alloc: Global, mode: &mut Mode, frames: &mut Stack<Frame>) -> Result<(), Stop>
     ensures { Moves (mode.new, frames.new) result (minus_goes mode.old frames.old) }
@@ -65,6 +68,7 @@ fn minus_sign(alloc: Global, mode: &mut Mode, frames: &mut Stack<Frame>) -> Resu
     mode.minus(alloc)
 }
 
+#[inline(never)]
 #[tactic(auto, unfolding(crate::specs::Machine::star_goes))]
 fn star_sign(mode: &mut Mode, frames: &mut Stack<Frame>) -> Result<(), Stop>
     ensures { Moves (mode.new, frames.new) result (star_goes mode.old frames.old) }
@@ -73,6 +77,7 @@ fn star_sign(mode: &mut Mode, frames: &mut Stack<Frame>) -> Result<(), Stop>
     mode.star()
 }
 
+#[inline(never)]
 #[tactic(auto, unfolding(crate::specs::Machine::slash_goes))]
 fn slash_sign(mode: &mut Mode, frames: &mut Stack<Frame>) -> Result<(), Stop>
     ensures { Moves (mode.new, frames.new) result (slash_goes mode.old frames.old) }
@@ -81,6 +86,7 @@ fn slash_sign(mode: &mut Mode, frames: &mut Stack<Frame>) -> Result<(), Stop>
     mode.slash()
 }
 
+#[inline(never)]
 #[tactic(auto, unfolding(crate::specs::Machine::null_goes))]
 fn null_word(mode: &mut Mode, frames: &mut Stack<Frame>) -> Result<(), Stop>
     ensures { Moves (mode.new, frames.new) result (null_goes mode.old frames.old) }
@@ -89,6 +95,7 @@ fn null_word(mode: &mut Mode, frames: &mut Stack<Frame>) -> Result<(), Stop>
     mode.null()
 }
 
+#[inline(never)]
 #[tactic(auto, unfolding(crate::specs::Machine::open_goes))]
 fn open_sign(alloc: Global, mode: &mut Mode, frames: &mut Stack<Frame>) -> Result<(), Stop>
     ensures { Moves (mode.new, frames.new) result (open_goes mode.old frames.old) }
@@ -98,6 +105,7 @@ fn open_sign(alloc: Global, mode: &mut Mode, frames: &mut Stack<Frame>) -> Resul
     Ok(())
 }
 
+#[inline(never)]
 #[tactic(auto, unfolding(crate::specs::Machine::close_goes))]
 fn close_sign(alloc: Global, mode: &mut Mode, frames: &mut Stack<Frame>) -> Result<(), Stop>
     ensures { Moves (mode.new, frames.new) result (close_goes mode.old frames.old) }
@@ -106,6 +114,7 @@ fn close_sign(alloc: Global, mode: &mut Mode, frames: &mut Stack<Frame>) -> Resu
     shut(term, mode, frames)
 }
 
+#[inline(never)]
 #[tactic(auto, unfolding(crate::specs::Machine::comma_goes))]
 fn comma_sign(alloc: Global, mode: &mut Mode, frames: &mut Stack<Frame>) -> Result<(), Stop>
     ensures { Moves (mode.new, frames.new) result (comma_goes mode.old frames.old) }
