@@ -3,7 +3,7 @@
 ghost use Rattle.std.specs.Prelude.{◌≡◌};
 ghost use Rattle.hp_descent.specs.declared.answer.DescentErr.TheVariants.{Memory as memory};
 
-use hp_base::{NameValue, Share};
+use hp_base::{Choice, NameValue, Share};
 use hp_num::{List, Wide};
 use std::alloc::AllocError;
 
@@ -30,15 +30,19 @@ pub enum ChainAnswer {
     Farkas(List<Share>),
 }
 
-/// Where a number passes: at a row, which counts from 1, or at the point of the chain.
+/// Where a number passes: at a row, which counts from 1; at the point of the chain; or at a literal of a line, both of
+/// which count from 1, whose sum is taken at the values of the point. Line 0 with literal 0 stands for the literal that
+/// a call was asked about.
 #[derive(Clone, Copy, Debug, PartialEq, Eq)]
 pub enum At {
     Row(u32),
     Point,
+    Literal { line: u32, lit: u32 },
 }
 
 /// How a number passes: as the chain is eliminated from a row; as a coordinate of the point of the chain is computed;
-/// as the left side of a row is summed at that point; or as a coordinate is divided by that of t, where all rows hold.
+/// as the left side of a row is summed at that point, or that of a literal at the values of the point; or as a
+/// coordinate is divided by that of t, where all rows hold.
 #[derive(Clone, Copy, Debug, PartialEq, Eq)]
 pub enum Form {
     Elimination,
@@ -56,6 +60,20 @@ pub struct RowStrain {
     pub at: At,
     pub form: Form,
     pub wide: Wide,
+}
+
+/// A place of a search tree: the choices from the root to it, in their order.
+#[derive(Drop)]
+pub enum Place {
+    Path(List<Choice>),
+}
+
+/// A strain over the literals over fractions of the path to a place of a search tree. They are counted from 1 in the
+/// order of the path, and those of other sorts are not among them.
+#[derive(Drop)]
+pub struct Strain {
+    pub place: Place,
+    pub row: RowStrain,
 }
 
 /// Why there is no answer: a number on the way passes 2^127 - 1, or memory was wanting.

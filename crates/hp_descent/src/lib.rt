@@ -15,7 +15,7 @@ mod shares;
 #[cfg(test)]
 mod tests;
 
-pub use answer::{At, ChainAnswer, DescentErr, Form, NumAnswer, RowStrain};
+pub use answer::{At, ChainAnswer, DescentErr, Form, NumAnswer, Place, RowStrain, Strain};
 pub use decision::{decide, decide_chain};
 pub use fit::are_fit;
 
