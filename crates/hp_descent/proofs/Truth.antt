@@ -1,5 +1,5 @@
 -- Where the rows of literals hold at a point, the literals are true at the coordinates over that of t.
-use Rattle.std.proofs.Common.{◌≡◌, ℕ, suc, ◌<◌, inl, inr, ℤ, pos, negsuc, neg_ℤ, ◌+ℤ◌, ◌*ℤ◌, refl, sym, ◌∙◌, ap, subst, arith, List, [], ◌∷◌, ◌++◌, length, get_or, map, nat_eq, cond, ◌-◌}
+use Rattle.std.proofs.Common.{◌≡◌, ℕ, suc, ◌<◌, inl, inr, ℤ, pos, negsuc, neg_ℤ, ◌+ℤ◌, ◌*ℤ◌, refl, sym, ◌∙◌, ap, subst, arith, List, [], ◌∷◌, ◌++◌, length, get_or, map, nat_eq, cond, ◌-◌, Ok}
 use Rattle.std.proofs.lemmas.List.{length-map, get_or-map}
 use Rattle.std.proofs.lemmas.Int.{ints}
 use Rattle.std.specs.List.{All}
@@ -18,7 +18,7 @@ use Rattle.hp_base.specs.Leaf.{coefficient}
 use Rattle.hp_rows.specs.declared.row.Row.{Row}
 use Rattle.hp_base.specs.declared.valuation.NameValue.{NameValue}
 use Rattle.hp_rows.specs.Rows.{dot, Holds, HoldsBelow, Among}
-use Rattle.hp_rows.specs.Points.{at_point}
+use Rattle.hp_rows.specs.Points.{at_point, values_of}
 use Rattle.hp_rows.specs.Exact.{AreQuotients}
 use Rattle.hp_rows.specs.Answers.{IsPoint}
 use Rattle.hp_rows.specs.Rows as rows
@@ -273,11 +273,19 @@ scale_apart lits chain point p e =
     let s : length point - 1 ≡ length (columns lits) = (let z = p.size in omega arith) in
     not_both (whole (pos 0)) (at_point point (length (columns lits))) above (subst (λ j. at_point point j ≤ℚ whole (pos 0)) s (subst (λ x. x ≤ℚ whole (pos 0)) (sym e) (≤ℚ_refl (whole (pos 0)))))
 
-pub solves : (lits : List NumLit) (rows : List ℕ) (point quotients : List ℚ) (chain : List ℕ) (values : List NameValue) → IsPoint (rows_of lits) (width_of lits) rows point
-    → AreQuotients (length point - 1) point quotients → chain ≡ map suc rows → map (λ nv. nv.name.0) values ≡ columns lits → map (λ nv. nv.value) values ≡ quotients
-    → IsChainSolution lits chain values
-solves lits rows point quotients chain values p q numbers named valued =
+pub solves : (lits : List NumLit) (rows : List ℕ) (point quotients : List ℚ) (values : List NameValue) → IsPoint (rows_of lits) (width_of lits) rows point
+    → AreQuotients (length point - 1) point quotients → values_of (length point - 1) point ≡ Ok quotients
+    → map (λ nv. nv.name.0) values ≡ columns lits → map (λ nv. nv.value) values ≡ quotients → IsChainSolution lits (map suc rows) values
+solves lits rows point quotients values p q made named valued =
     let s : length point - 1 ≡ length (columns lits) = (let z = p.size in omega arith) in
     let r : AreQuotients (length (columns lits)) point (map (λ nv. nv.value) values) =
     subst (λ ys. AreQuotients (length (columns lits)) point ys) (sym valued) (subst (λ t. AreQuotients t point quotients) s q) in
-    record { rows = rows; numbers = numbers; point = point; is_point = p; quotients = r; solution = keeps lits rows point values p named r }
+    record {
+      rows = rows;
+      numbers = refl;
+      point = point;
+      is_point = p;
+      quotients = r;
+      made = ap (λ t. values_of t point) (sym s) ∙ made ∙ ap Ok (sym valued);
+      solution = keeps lits rows point values p named r;
+    }

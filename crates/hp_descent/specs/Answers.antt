@@ -12,6 +12,7 @@ use Rattle.hp_rows.specs.declared.answer.Place.{Place}
 use Rattle.hp_rows.specs.declared.answer.Place.TheVariants as place
 use Rattle.hp_rows.specs.Strain.{IsStrainAt}
 use Rattle.hp_rows.specs.Answers.{IsPoint}
+use Rattle.hp_rows.specs.Points.{values_of}
 use Rattle.hp_rows.specs.Exact.{AreQuotients}
 use Rattle.hp_descent.specs.declared.answer.At.{At}
 use Rattle.hp_descent.specs.declared.answer.At.TheVariants as at
@@ -34,13 +35,14 @@ pub record IsSolution (lits : List NumLit) (values : List NameValue) : Type 0 wh
   pub keeps : (v : Values) → All (λ nv. name_value v nv.name.0 ≡ nv.value) values → All (NumIsTrue v) lits
 
 -- a solution from the point of a chain of the literals' rows, whose numbers count from 1: all rows hold at the point, and
--- each value is the coordinate of its name over that of t
+-- each value is the coordinate of its name over that of t, computed without a number that passes
 pub record IsChainSolution (lits : List NumLit) (chain : List ℕ) (values : List NameValue) : Type 0 where
   pub rows : List ℕ
   pub numbers : chain ≡ map suc rows
   pub point : List ℚ
   pub is_point : IsPoint (rows_of lits) (width_of lits) rows point
   pub quotients : AreQuotients (length (columns lits)) point (map (λ nv. nv.value) values)
+  pub made : values_of (length (columns lits)) point ≡ Ok (map (λ nv. nv.value) values)
   pub solution : IsSolution lits values
 
 -- how a number passes, and where, with row numbers that count from 1: as the chain is eliminated from a row; as a

@@ -10,6 +10,7 @@ ghost use Rattle.hp_rows.specs.Answers.{IsPoint};
 ghost use Rattle.hp_rows.specs.Strain.{IsStrain};
 ghost use Rattle.hp_descent.specs.Columns.{AreFit, columns};
 ghost use Rattle.hp_descent.specs.LiteralRows.{rows_of, width_of};
+ghost use Rattle.hp_descent.specs.Values.{GivesValues};
 ghost use Rattle.hp_descent.specs.Answers.{Decides, DecidesChain, IsSmallPlace, IsStrained, at_of, form_of};
 
 use crate::answer::{At, ChainAnswer, DescentErr, Form, NumAnswer, RowStrain};
@@ -68,7 +69,7 @@ fn decide_over(alloc: Global, lits: &[NumLit], names: &[u32]) -> Result<ChainAns
     }
 }
 
-/// The values that the point of a chain gives: each coordinate over that of t.
+/// The values that the point of a chain gives, with the numbers of its rows.
 fn solution(
     alloc: Global,
     lits: &[NumLit],
@@ -81,12 +82,26 @@ fn solution(
     requires point { IsPoint (rows_of lits.now) (width_of lits.now) chain.now point.now }
     ensures { DecidesChain lits.now result }
 {
+    let values = values_at(alloc, lits, names, chain, point)?;
+    let chain = numbered(alloc, chain)?;
+    Ok(ChainAnswer::Point { chain, values })
+}
+
+/// The values that the point of a chain gives: each coordinate over that of t.
+pub fn values_at(
+    alloc: Global,
+    lits: &[NumLit],
+    names: &[u32],
+    chain: &[usize],
+    point: &[Frac],
+) -> Result<List<NameValue>, DescentErr>
+    requires fit { AreFit lits.now }
+    requires columns { names.now ≡ columns lits.now }
+    requires point { IsPoint (rows_of lits.now) (width_of lits.now) chain.now point.now }
+    ensures { GivesValues lits.now (map suc chain.now) result }
+{
     match values(alloc, point) {
-        Ok(values) => {
-            let chain = numbered(alloc, chain)?;
-            let values = named(alloc, names, values.as_slice())?;
-            Ok(ChainAnswer::Point { chain, values })
-        }
+        Ok(values) => Ok(named(alloc, names, values.as_slice())?),
         Err(Fail::Memory) => Err(DescentErr::Memory),
         Err(Fail::Wide(wide)) => {
             let chain = numbered(alloc, chain)?;
@@ -129,7 +144,11 @@ fn numbered(alloc: Global, chain: &[usize]) -> Result<List<u32>, AllocError>
 }
 
 /// A strain of the literals' rows, in row numbers that count from 1.
-fn numbered_strain(alloc: Global, lits: &[NumLit], strain: &Strain) -> Result<RowStrain, AllocError>
+pub fn numbered_strain(
+    alloc: Global,
+    lits: &[NumLit],
+    strain: &Strain,
+) -> Result<RowStrain, AllocError>
     requires fit { AreFit lits.now }
     requires strain { IsStrain (rows_of lits.now) (width_of lits.now) strain.now }
     ensures { IfOk result (λ named. IsStrained lits.now named) }

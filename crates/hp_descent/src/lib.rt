@@ -7,17 +7,21 @@
 ghost use Rattle.hp_descent.specs.Laws.{ColumnsAreNames};
 
 mod answer;
+mod chained;
 mod columns;
 mod decision;
 mod fit;
 mod rows;
 mod shares;
+mod sums;
 #[cfg(test)]
 mod tests;
 
 pub use answer::{At, ChainAnswer, DescentErr, Form, NumAnswer, Place, RowStrain, Strain};
+pub use chained::value_at;
 pub use decision::{decide, decide_chain};
 pub use fit::are_fit;
+pub use sums::{compare, holds};
 
 /// The columns of literals are the names that occur in them, each once, in rising order.
 pub fn columns_are_names()

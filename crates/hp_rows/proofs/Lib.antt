@@ -1,12 +1,12 @@
 mod Dot
 mod Positive
 mod Lines
-mod Clearing
+pub mod Clearing
 mod Start
 mod Contradiction
-mod Number
+pub mod Number
 mod Point
-mod Exact
+pub mod Exact
 mod Refute
 mod Moves
 mod Chains
