@@ -1,9 +1,10 @@
 //! What the descent over literals answers with ample memory to literals whose answers are known by hand.
 
-use crate::{At, ChainAnswer, DescentErr, Form, are_fit, decide_chain};
-use hp_base::{Name, NumLit, Part, Rel};
-use hp_num::{List, Op, Wide};
+use crate::{At, ChainAnswer, DescentErr, Form, are_fit, compare, decide_chain, holds, value_at};
+use hp_base::{Name, NumLit, Part, Rel, Valuation};
+use hp_num::{Frac, List, Op, Wide};
 use std::alloc::{AllocError, Global};
+use std::cmp::Ordering;
 use std::test::Fail;
 
 /// 2^100, whose square passes 128 bits.
@@ -75,10 +76,17 @@ fn shares_in(
 
 fn is_strain(answer: &Result<ChainAnswer, DescentErr>, at: At, form: Form, wide: Wide) -> bool {
     match answer {
-        Err(DescentErr::Strain(strain)) => {
+        Err(cause) => is_cause(cause, at, form, wide),
+        Ok(_) => false,
+    }
+}
+
+fn is_cause(cause: &DescentErr, at: At, form: Form, wide: Wide) -> bool {
+    match cause {
+        DescentErr::Strain(strain) => {
             strain.at == at && strain.form == form && strain.wide == wide
         }
-        _ => false,
+        DescentErr::Memory => false,
     }
 }
 
@@ -146,4 +154,92 @@ fn strains_name_their_row(rt: HostRuntime) {
         right: LONG + 1,
     };
     assert!(rt; is_strain(&answer, At::Row(6), Form::Sum, wide));
+}
+
+/// How the left side of a further literal stands to its bound at the values of the chain that the decision gives, and
+/// want of memory where a literal isn't as it should be.
+fn asked_at(alloc: Global, sides: &[Sides], other: Sides) -> Result<Ordering, DescentErr> {
+    let lits = literals(alloc, sides)?;
+    let others = literals(alloc, &[other])?;
+    if !are_fit(lits.as_slice()) || !are_fit(others.as_slice()) {
+        return Err(DescentErr::Memory);
+    }
+    match others.as_slice().get(0) {
+        None => Err(DescentErr::Memory),
+        Some(other) => match decide_chain(alloc, lits.as_slice())? {
+            ChainAnswer::Point { chain, values: _ } => {
+                value_at(alloc, lits.as_slice(), chain.as_slice(), other)
+            }
+            ChainAnswer::Farkas(_) => Err(DescentErr::Memory),
+        },
+    }
+}
+
+#[test]
+fn literals_are_compared_at_the_values_of_a_chain(rt: HostRuntime) {
+    // c - d < 0, with the values c = -1 and d = 0
+    let sides: [Sides; 1] = [(Rel::Lt, &[(0, 1), (1, -1)], 0)];
+    let below = asked_at(rt.alloc(), &sides, (Rel::Le, &[(0, 1)], 0));
+    let equal = asked_at(rt.alloc(), &sides, (Rel::Eq, &[(0, 2)], -2));
+    let above = asked_at(rt.alloc(), &sides, (Rel::Le, &[(0, -3), (1, 1)], 2));
+    assert!(rt; matches!(below, Ok(Ordering::Less)));
+    assert!(rt; matches!(equal, Ok(Ordering::Equal)));
+    assert!(rt; matches!(above, Ok(Ordering::Greater)));
+}
+
+#[test]
+fn names_without_a_column_have_value_0(rt: HostRuntime) {
+    // c - d < 0 and e + c = -1, where e stands in no row
+    let sides: [Sides; 1] = [(Rel::Lt, &[(0, 1), (1, -1)], 0)];
+    let answer = asked_at(rt.alloc(), &sides, (Rel::Eq, &[(0, 1), (4, 1)], -1));
+    assert!(rt; matches!(answer, Ok(Ordering::Equal)));
+}
+
+#[test]
+fn sums_of_literals_may_pass(rt: HostRuntime) {
+    // c = 2^100 and 2^100 c <= 0
+    let sides: [Sides; 1] = [(Rel::Eq, &[(0, 1)], LONG)];
+    let answer = asked_at(rt.alloc(), &sides, (Rel::Le, &[(0, LONG)], 0));
+    let wide = Wide {
+        left: LONG,
+        op: Op::Times,
+        right: LONG,
+    };
+    let at = At::Literal { line: 0, lit: 0 };
+    let is_strained = match &answer {
+        Err(cause) => is_cause(cause, at, Form::Sum, wide),
+        Ok(_) => false,
+    };
+    assert!(rt; is_strained);
+}
+
+#[test]
+fn literals_are_compared_at_a_valuation(rt: HostRuntime) -> Result<(), Fail> {
+    // names 0 and 1 have 1/2 and -3; the others have 0
+    let mut values = List::new(rt.alloc());
+    values.push(Frac::new(1, 2))?;
+    values.push(Frac::new(-3, 1))?;
+    let v = Valuation { values };
+    let lits = literals(
+        rt.alloc(),
+        &[
+            (Rel::Eq, &[(0, 4), (1, 1), (7, 5)], -1),
+            (Rel::Lt, &[(0, 4), (1, 1)], -1),
+            (Rel::Le, &[(0, -4), (1, -1)], 0),
+        ],
+    )?;
+    let mut answers = List::new(rt.alloc());
+    if are_fit(lits.as_slice()) {
+        for at in 0..lits.len() {
+            let lit = &lits.as_slice()[at];
+            answers.push(matches!(compare(&v, lit), Ok(Ordering::Equal)))?;
+            answers.push(matches!(compare(&v, lit), Ok(Ordering::Greater)))?;
+            answers.push(matches!(holds(&v, lit), Ok(true)))?;
+        }
+    }
+    assert_eq!(rt;
+        answers.as_slice(),
+        [true, false, true, true, false, false, false, true, false].as_slice()
+    );
+    Ok(())
 }
