@@ -7,3 +7,4 @@ pub mod Honest
 pub mod Lengths
 pub mod Nested
 pub mod Singles
+pub mod Renumbered

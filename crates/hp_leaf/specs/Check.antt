@@ -8,6 +8,7 @@ use Rattle.hp_base.specs.declared.literal.Lit.TheVariants.{Num, Idx, Ptr}
 use Rattle.hp_base.specs.declared.literal.IdxLit.{IdxLit}
 use Rattle.hp_base.specs.declared.proof.Step.{Step}
 use Rattle.hp_base.specs.Cycle.{AreRowsOf, Leads}
+use Rattle.hp_farkas.specs.Check.{IsChecked as IsCheckedCombination}
 use Rattle.hp_leaf.specs.declared.tree.LeafProof.{LeafProof}
 use Rattle.hp_leaf.specs.declared.tree.LeafProof.TheVariants.{Num as NumLeaf, Idx as IdxLeaf, Ptr as PtrLeaf}
 use Rattle.hp_leaf.specs.Pointers.{IsValidPtr}
@@ -47,12 +48,6 @@ pub record IsCheckedConflict (path : List Lit) (ne : ℕ) (links : List ℕ) (an
   pub other : (IsValidPtr path ne links → ⊥) → answer ≡ Ok false
 
 abbrev pub IsChecked : List Lit → LeafProof → Result Bool Wide → Type 0
-IsChecked path (NumLeaf shares) answer = Unit {0}
+IsChecked path (NumLeaf shares) answer = IsCheckedCombination path shares answer
 IsChecked path (IdxLeaf steps) answer = IsCheckedCycle path steps answer
 IsChecked path (PtrLeaf ne links) answer = IsCheckedConflict path ne links answer
-
--- the kinds of leaves whose check is built
-abbrev pub IsNotNum : LeafProof → Type 0
-IsNotNum (NumLeaf shares) = ⊥
-IsNotNum (IdxLeaf steps) = Unit {0}
-IsNotNum (PtrLeaf ne links) = Unit {0}

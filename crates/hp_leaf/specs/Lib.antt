@@ -5,3 +5,4 @@ pub mod Tree
 pub mod Path
 pub mod Nested
 pub mod Laws
+pub mod Renumbered

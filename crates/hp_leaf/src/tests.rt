@@ -1,10 +1,11 @@
-//! What `check_leaf` answers over one path to leaves whose answers are known by hand.
+//! What `check_leaf` answers to leaves whose answers are known by hand, and renumbered leaves.
+//! There is memory, so a body that only answers want of memory fails here.
 ghost use Rattle.std.specs.Prelude.{◌≡◌, true};
 ghost use Rattle.std.specs.List.{All};
 ghost use Rattle.hp_leaf.specs.Check.{HasNarrowBound};
 
-use crate::{LeafProof, check_leaf};
-use hp_base::{IdxLit, Lit, Name, PtrLit, Step};
+use crate::{LeafProof, check_leaf, renumber_shares, renumber_steps};
+use hp_base::{IdxLit, Lit, Name, NumLit, Part, PtrLit, Rel, Share, Step};
 use hp_num::{List, Op, Wide};
 use std::alloc::{AllocError, Global};
 
@@ -50,6 +51,28 @@ fn path(alloc: Global) -> Result<Vec<Lit>, AllocError> {
     Ok(path)
 }
 
+/// A multiple of one name, compared with a bound.
+fn multiple(alloc: Global, rel: Rel, coef: i128, bound: i128) -> Result<Lit, AllocError> {
+    let mut parts = List::new(alloc);
+    parts.push(Part {
+        name: Name(0),
+        coef,
+    })?;
+    Ok(Lit::Num(NumLit { rel, parts, bound }))
+}
+
+/// `c <= 0`, `-c < 0`, `c < 0`, `c = 1`, `0 <= -1` over whole numbers, and `2*c <= 0`.
+fn num_path(alloc: Global) -> Result<Vec<Lit>, AllocError> {
+    let mut path = Vec::new(alloc);
+    path.push(multiple(alloc, Rel::Le, 1, 0)?)?;
+    path.push(multiple(alloc, Rel::Lt, -1, 0)?)?;
+    path.push(multiple(alloc, Rel::Lt, 1, 0)?)?;
+    path.push(multiple(alloc, Rel::Eq, 1, 1)?)?;
+    path.push(bound(false, ZERO, ZERO, -1))?;
+    path.push(multiple(alloc, Rel::Le, 2, 0)?)?;
+    Ok(path)
+}
+
 fn is_narrow(lit: &Lit) -> bool
     ensures { result ≡ true → HasNarrowBound lit.now }
 {
@@ -82,12 +105,12 @@ fn minus(lit: u32) -> Step {
     }
 }
 
-fn wide(left: i128, right: i128) -> Result<bool, Wide> {
-    Err(Wide {
-        left,
-        op: Op::Plus,
-        right,
-    })
+fn share(lit: u32, times: i128) -> Share {
+    Share { lit, times }
+}
+
+fn wide(left: i128, op: Op, right: i128) -> Result<bool, Wide> {
+    Err(Wide { left, op, right })
 }
 
 #[test]
@@ -103,13 +126,34 @@ fn cycles(rt: HostRuntime) -> Result<(), AllocError> {
         (&[], Ok(false)),
         (&[plus(0)], Ok(false)),
         (&[plus(9)], Ok(false)),
-        (&[plus(3), plus(4)], wide(LARGEST, 1)),
-        (&[plus(4), plus(3)], wide(1, LARGEST)),
+        (&[plus(3), plus(4)], wide(LARGEST, Op::Plus, 1)),
+        (&[plus(4), plus(3)], wide(1, Op::Plus, LARGEST)),
     ];
     let path = path(rt.alloc())?;
     assert!(rt; are_narrow(&path));
     for (steps, want) in cases {
         let proof = LeafProof::Idx(List::from_vec(Vec::from_slice(rt.alloc(), steps)?));
+        assert_eq!(rt; check_leaf(&path, &proof), want);
+    }
+    Ok(())
+}
+
+#[test]
+fn combinations(rt: HostRuntime) -> Result<(), AllocError> {
+    let cases: [(&[Share], Result<bool, Wide>); 8] = [
+        (&[share(1, 1), share(2, 1)], Ok(true)),
+        (&[share(1, 1), share(2, 2)], Ok(false)),
+        (&[share(2, 1), share(1, 1)], Ok(false)),
+        (&[share(1, 1), share(2, 1), share(6, 0)], Ok(false)),
+        (&[share(1, -1), share(3, 1)], Ok(false)),
+        (&[share(3, 1), share(4, -1)], Ok(true)),
+        (&[share(1, 1), share(2, 1), share(5, 1)], Ok(false)),
+        (&[share(6, LARGEST)], wide(LARGEST, Op::Times, 2)),
+    ];
+    let path = num_path(rt.alloc())?;
+    assert!(rt; are_narrow(&path));
+    for (shares, want) in cases {
+        let proof = LeafProof::Num(List::from_vec(Vec::from_slice(rt.alloc(), shares)?));
         assert_eq!(rt; check_leaf(&path, &proof), want);
     }
     Ok(())
@@ -135,5 +179,20 @@ fn conflicts_of_pointers(rt: HostRuntime) -> Result<(), AllocError> {
         };
         assert_eq!(rt; check_leaf(&path, &proof), Ok(want));
     }
+    Ok(())
+}
+
+#[test]
+fn renumbered_leaves(rt: HostRuntime) -> Result<(), AllocError> {
+    let places = [2, 5, 9];
+    let shares = [share(1, 4), share(3, -1), share(4, 7), share(0, 7)];
+    let renumbered = renumber_shares(rt.alloc(), &places, &shares)?;
+    let want = [share(2, 4), share(9, -1), share(0, 7), share(0, 7)];
+    assert_eq!(rt; renumbered.as_slice(), want.as_slice());
+    let renumbered = renumber_steps(rt.alloc(), &places, &[plus(2), minus(1), plus(4)])?;
+    assert_eq!(rt;
+        renumbered.as_slice(),
+        [plus(5), minus(2), plus(0)].as_slice()
+    );
     Ok(())
 }
