@@ -6,3 +6,4 @@ pub mod Refutation
 pub mod Named
 pub mod Entries
 pub mod Refutes
+pub mod Overflow

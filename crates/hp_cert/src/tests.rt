@@ -7,16 +7,19 @@ ghost use Rattle.hp_cert.specs.Named.{GroundIsNamed, IsNameIfAny, LineIsNamed, L
 
 use crate::forms::{put_args, put_lin};
 use crate::literals::put_lits;
-use crate::{Entry, Refutation, body, entries, line_text, write};
+use crate::{Entry, Refutation, body, entries, line_text, overflow_text, write};
 use hp_ast::Sort;
 use hp_base::{
-    Arg, Ground, IdxLit, Lin, LinPart, Line, Lit, Name, Names, NumLit, Origin, Part, PtrLit, Rel,
-    Share, Step,
+    Arg, Choice, Ground, IdxLit, Lin, LinPart, Line, Lit, Name, Names, NumLit, Origin, Part,
+    PtrLit, Rel, Share, Step,
 };
+use hp_descent::{At, Form, Place, RowStrain, Strain};
 use hp_leaf::{LeafProof, Node};
-use hp_num::{Frac, List, Text};
+use hp_num::{Frac, List, Op, Text, Wide};
 use std::alloc::{AllocError, Global};
 use std::process::Abort;
+
+const LARGEST: i128 = i128::MAX;
 
 const ZERO: Option<Name> = None;
 
@@ -320,6 +323,73 @@ fn nodes(rt: HostRuntime) -> Result<(), AllocError> {
     };
     let text = body(alloc, &r)?;
     let want = b"def _1 = c + 1\nleaf num 1:2 3:-1\nleaf ptr 2: 1 3\nopen\n";
+    assert_eq!(rt; text.as_slice(), want.as_slice());
+    Ok(())
+}
+
+/// A strain at a place of these choices, over a chain of these rows.
+fn strain(
+    alloc: Global,
+    choices: &[Choice],
+    chain: &[u32],
+    at: At,
+    form: Form,
+    wide: Wide,
+) -> Result<Strain, AllocError> {
+    Ok(Strain {
+        place: Place::Path(List::from_vec(Vec::from_slice(alloc, choices)?)),
+        row: RowStrain {
+            chain: List::from_vec(Vec::from_slice(alloc, chain)?),
+            at,
+            form,
+            wide,
+        },
+    })
+}
+
+fn wide(left: i128, op: Op, right: i128) -> Wide {
+    Wide { left, op, right }
+}
+
+#[test]
+fn overflow_at_row(rt: HostRuntime) -> Result<(), AllocError> {
+    let choices = [Choice { line: 1, lit: 1 }, Choice { line: 4, lit: 2 }];
+    let wide = wide(LARGEST, Op::Times, -2);
+    let strain = strain(
+        rt.alloc(),
+        &choices,
+        &[5, 3],
+        At::Row(2),
+        Form::Elimination,
+        wide,
+    )?;
+    let text = overflow_text(rt.alloc(), &strain)?;
+    let want =
+        b"overflow path 1.1 4.2; chain 5 3; at 2; form 1; 170141183460469231731687303715884105727 * -2\n";
+    assert_eq!(rt; text.as_slice(), want.as_slice());
+    Ok(())
+}
+
+#[test]
+fn overflow_at_literal(rt: HostRuntime) -> Result<(), AllocError> {
+    let choices = [Choice { line: 7, lit: 1 }];
+    let at = At::Literal { line: 7, lit: 1 };
+    let wide = wide(-LARGEST, Op::Minus, 1);
+    let strain = strain(rt.alloc(), &choices, &[2], at, Form::Sum, wide)?;
+    let text = overflow_text(rt.alloc(), &strain)?;
+    let want =
+        b"overflow path 7.1; chain 2; at 7.1; form 3; -170141183460469231731687303715884105727 - 1\n";
+    assert_eq!(rt; text.as_slice(), want.as_slice());
+    Ok(())
+}
+
+#[test]
+fn overflow_at_point(rt: HostRuntime) -> Result<(), AllocError> {
+    let wide = wide(LARGEST, Op::Plus, 1);
+    let strain = strain(rt.alloc(), &[], &[], At::Point, Form::Coordinate, wide)?;
+    let text = overflow_text(rt.alloc(), &strain)?;
+    let want =
+        b"overflow path; chain; at point; form 2; 170141183460469231731687303715884105727 + 1\n";
     assert_eq!(rt; text.as_slice(), want.as_slice());
     Ok(())
 }
