@@ -13,8 +13,7 @@ use Rattle.hp_read.specs.Bodies.{SpellsAtom, SpellsAtoms, one, more, SpellsGuard
 use Rattle.hp_read.specs.Problems.{SpellsItem, clause, query, SpellsItems, SpellsProblem, problem}
 use Rattle.hp_read.specs.Problems as grammar
 use Rattle.hp_norm.specs.Forms.{weight}
-use Rattle.hp_norm.specs.Literals.{IsLightAtom}
-use Rattle.hp_norm.specs.Ground.{IsLightClause, IsLight}
+use Rattle.hp_norm.specs.Literals.{IsLightAtom, IsLightClause, IsLight}
 use Rattle.hp_bounds.proofs.Loads.{load, load-append, load-between, term_carried}
 
 atom_carried : (u : List Token) (a : Atom) → SpellsAtom u a → (weight a.left + weight a.right) ≤ load u

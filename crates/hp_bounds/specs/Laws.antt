@@ -2,7 +2,7 @@
 use Rattle.std.specs.Prelude.{ℕ, ◌+◌, ◌≤◌, List, length}
 use Rattle.hp_ast.specs.declared.problem.Problem.{Problem}
 use Rattle.hp_read.specs.Spells.{Spells}
-use Rattle.hp_norm.specs.Ground.{IsLight}
+use Rattle.hp_norm.specs.Literals.{IsLight}
 
 -- no more declarations and clauses than bytes
 abbrev pub FewItems : Type 0

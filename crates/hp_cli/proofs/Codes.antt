@@ -1,7 +1,7 @@
 -- A status is told by its number.
 use Rattle.std.proofs.Common.{◌≡◌, ◌⊎◌, inl, inr, ℕ, List, refl, sym, subst, ◌∙◌, arith}
 use Rattle.hp_cli.specs.declared.answer.Status.{Status}
-use Rattle.hp_cli.specs.declared.answer.Status.TheVariants.{Done, Usage, ReadFault, WriteFault, Spelling, Sort, Limit, Sat, Spent, Memory, NotBuilt, Unsat}
+use Rattle.hp_cli.specs.declared.answer.Status.TheVariants.{Done, Usage, ReadFault, WriteFault, Spelling, Sort, Limit, Overflow, Sat, Spent, Memory, NotBuilt, Unsat}
 use Rattle.hp_cli.specs.declared.words.Task.{Task}
 use Rattle.hp_cli.specs.declared.words.Task.TheVariants.{Solve, Print}
 use Rattle.hp_cli.specs.Answer.{Answers, Does, IsDecided, IsDone, IsWhole, Prints, Solves, code}
@@ -16,6 +16,7 @@ same_code WriteFault WriteFault e = refl
 same_code Spelling Spelling e = refl
 same_code Sort Sort e = refl
 same_code Limit Limit e = refl
+same_code Overflow Overflow e = refl
 same_code Sat Sat e = refl
 same_code Memory Memory e = refl
 same_code NotBuilt NotBuilt e = refl
@@ -29,6 +30,7 @@ decided_whole Done d = d
 decided_whole Spelling d = d
 decided_whole Sort d = d
 decided_whole Limit d = d
+decided_whole Overflow d = d
 decided_whole Sat d = d
 decided_whole Unsat d = d
 decided_whole Spent d = d
@@ -57,6 +59,7 @@ prints_decided bytes text Usage h = absurd h
 prints_decided bytes text ReadFault h = absurd h
 prints_decided bytes text WriteFault h = absurd h
 prints_decided bytes text Sort h = absurd h
+prints_decided bytes text Overflow h = absurd h
 prints_decided bytes text Sat h = absurd h
 prints_decided bytes text Spent h = absurd h
 prints_decided bytes text Memory h = absurd h
@@ -68,6 +71,7 @@ solves_decided most bytes text Spelling h = tt
 solves_decided most bytes text Sort h = tt
 solves_decided most bytes text Limit h = tt
 solves_decided most bytes text NotBuilt h = tt
+solves_decided most bytes text Overflow h = tt
 solves_decided most bytes text Sat h = tt
 solves_decided most bytes text Unsat h = tt
 solves_decided most bytes text Spent h = tt
@@ -90,6 +94,7 @@ does_answers words task bytes text s asked does = by s (does_decided task bytes 
     by Spelling d h = h
     by Sort d h = h
     by Limit d h = h
+    by Overflow d h = h
     by Sat d h = h
     by Unsat d h = h
     by Spent d h = h

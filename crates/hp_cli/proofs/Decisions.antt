@@ -1,13 +1,15 @@
 -- What each step of the decision says of the answer.
-use Rattle.std.proofs.Common.{◌≡◌, ◌≢◌, ◌<◌, ◌≤◌, ◌+◌, ◌^◌, ℕ, List, Bool, true, false, cond, length, nat_lt, Option, Some, None, Result, Ok, Err, IfOk, refl, sym, subst, inl, inr, arith}
+use Rattle.std.proofs.Common.{◌≡◌, ◌≢◌, ◌<◌, ◌≤◌, ◌+◌, ◌^◌, ℕ, List, Bool, true, false, cond, length, nat_lt, Option, Some, None, Result, Ok, Err, IfOk, refl, sym, ap, subst, ◌∙◌, inl, inr, arith}
 use Rattle.std.proofs.lemmas.Bool.{ltb-false}
 use Rattle.hp_ast.specs.declared.limit.Limit.{Limit as LimitOf}
 use Rattle.hp_ast.specs.declared.limit.Which.TheVariants.{Names}
 use Rattle.hp_ast.specs.declared.problem.Problem.{Problem}
 use Rattle.hp_bounds.proofs.Bounds as bounds
-use Rattle.hp_norm.specs.Ground.{IsIndexProblem, IsLight}
+use Rattle.hp_ground.specs.Answers.{IsFirstWide}
+use Rattle.hp_ground.specs.Ground.{IsGroundProblem}
+use Rattle.hp_norm.specs.Literals.{IsLight}
 use Rattle.hp_roundtrip.specs.Law.{Reprints}
-use Rattle.hp_scope.specs.Laws.{IsIdxProblem}
+use Rattle.hp_scope.specs.Laws.{IsScopedProblem}
 use Rattle.hp_scope.proofs.Scope.{scope_by_sorts}
 use Rattle.hp_solve.specs.Solved.{IsInScope}
 use Rattle.hp_sorts.specs.declared.fault.SortErr.{SortErr}
@@ -21,7 +23,7 @@ use Rattle.hp_cli.specs.declared.words.Task.{Task}
 use Rattle.hp_cli.specs.declared.words.Task.TheVariants.{Solve, Print}
 use Rattle.hp_cli.specs.Answer.{Does, Solves}
 use Rattle.hp_cli.specs.Refusals.{limit_text}
-use Rattle.hp_cli.specs.Verdicts.{InScope, IsCounted, IsRead, Misspelled, Printed, TooLong}
+use Rattle.hp_cli.specs.Verdicts.{InScope, IsCounted, IsRead, Misspelled, Printed, TooLong, coefficient}
 
 -- ---- every task
 pub misspelled : (task : Task) (bytes text : List ℕ) → Misspelled bytes text → Does task bytes text Spelling
@@ -65,20 +67,37 @@ printed_again bytes text size r = record {
 }
 
 -- ---- what the forms of a well-sorted problem say of its sorts
-pub idx_problem : (bytes : List ℕ) (p : Problem) → IsCounted bytes p → IsIndexProblem p → IsIdxProblem p
-idx_problem bytes p c index = (scope_by_sorts p c.sorted.sorted).0 index
+pub const_problem : (bytes : List ℕ) (p : Problem) → IsCounted bytes p → IsGroundProblem p → IsScopedProblem p
+const_problem bytes p c ground = (scope_by_sorts p c.sorted.sorted).0 ground
 
-pub no_idx_problem : (bytes : List ℕ) (p : Problem) → IsCounted bytes p → (IsIndexProblem p → ⊥) → IsIdxProblem p → ⊥
-no_idx_problem bytes p c other idx = other ((scope_by_sorts p c.sorted.sorted).1 idx)
+pub no_const_problem : (bytes : List ℕ) (p : Problem) → IsCounted bytes p → (IsGroundProblem p → ⊥) → IsScopedProblem p → ⊥
+no_const_problem bytes p c other constants = other ((scope_by_sorts p c.sorted.sorted).1 constants)
 
 pub in_scope : (bytes : List ℕ) (p : Problem) → IsCounted bytes p → IsInScope p → InScope bytes p
-in_scope bytes p c s = record { counted = c; index = idx_problem bytes p c s.index; names = s.names }
+in_scope bytes p c s = record { counted = c; constants = const_problem bytes p c s.problem; names = s.names; narrow = s.narrow }
 
 -- the answer for too many constants, where there is one
-pub too_many_names : {E : Type 0} (most : ℕ) (bytes : List ℕ) (p : Problem) → IsCounted bytes p → IsIndexProblem p → 4000 < length p.decls
+pub too_many_names : {E : Type 0} (most : ℕ) (bytes : List ℕ) (p : Problem) → IsCounted bytes p → IsGroundProblem p → 4000 < length p.decls
     → (r : Result Answer E) → IfOk r (λ answer. (answer.status ≡ Limit) × (answer.text ≡ limit_text (limit_of Names 4000)))
     → IfOk r (λ answer. Solves most bytes answer.text answer.status)
-too_many_names most bytes p c index size (Ok answer) h =
+too_many_names most bytes p c ground size (Ok answer) h =
     subst (λ (s : Status). Solves most bytes answer.text s) (sym h.0)
-    (inr (inr (record { problem = p; counted = c; index = idx_problem bytes p c index; size = size; written = h.1 })))
-too_many_names most bytes p c index size (Err e) h = h
+    (inr (inr (inl (record { problem = p; counted = c; constants = const_problem bytes p c ground; size = size; written = h.1 }))))
+too_many_names most bytes p c ground size (Err e) h = h
+
+-- the same for a number that is too wide
+pub too_wide : {E : Type 0} (most : ℕ) (bytes : List ℕ) (p : Problem) (item : ℕ) → IsCounted bytes p → IsFirstWide p item
+    → (r : Result Answer E) → IfOk r (λ answer. (answer.status ≡ Limit) × (answer.text ≡ limit_text (coefficient item)))
+    → IfOk r (λ answer. Solves most bytes answer.text answer.status)
+too_wide most bytes p item c wide (Ok answer) h =
+    subst (λ (s : Status). Solves most bytes answer.text s) (sym h.0)
+    (inr (inr (inr (record {
+      problem = p;
+      counted = c;
+      constants = const_problem bytes p c wide.problem;
+      few = wide.few;
+      clause = wide.clause;
+      cause = wide.first;
+      written = h.1 ∙ ap (λ n. limit_text (coefficient n)) wide.same;
+    }))))
+too_wide most bytes p item c wide (Err e) h = h

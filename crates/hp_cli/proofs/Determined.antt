@@ -1,5 +1,5 @@
 -- The answers of an input exclude one another: each has a cause that the others lack.
-use Rattle.std.proofs.Common.{◌≡◌, inl, inr, ℕ, List, [], None, Some, ◌<◌, ◌≤◌, length, refl, sym, ap, subst, ◌∙◌, arith}
+use Rattle.std.proofs.Common.{◌≡◌, inl, inr, ℕ, List, [], None, Some, ◌+◌, ◌<◌, ◌≤◌, length, refl, sym, ap, subst, ◌∙◌, arith}
 use Rattle.std.specs.declared.option.Option.{Option}
 use Rattle.hp_ast.specs.Printing.{problem_text}
 use Rattle.hp_ast.specs.declared.problem.Problem.{Problem}
@@ -7,15 +7,16 @@ use Rattle.hp_faults.proofs.Faults.{one_fault}
 use Rattle.hp_read.proofs.BytesLaws.{no_fault, one_problem}
 use Rattle.hp_sorts.specs.Faults.{sort_fault}
 use Rattle.hp_sorts.specs.Limits.{passed}
-use Rattle.hp_scope.specs.Laws.{IsIdxProblem}
+use Rattle.hp_ground.specs.Lines.{first_wide}
+use Rattle.hp_scope.specs.Laws.{IsScopedProblem}
 use Rattle.hp_cli.specs.declared.answer.Status.{Status}
-use Rattle.hp_cli.specs.declared.answer.Status.TheVariants.{Done, Usage, ReadFault, WriteFault, Spelling, Sort, Limit, Sat, Spent, Memory, NotBuilt, Unsat}
+use Rattle.hp_cli.specs.declared.answer.Status.TheVariants.{Done, Usage, ReadFault, WriteFault, Spelling, Sort, Limit, Overflow, Sat, Spent, Memory, NotBuilt, Unsat}
 use Rattle.hp_cli.specs.declared.words.Task.{Task}
 use Rattle.hp_cli.specs.declared.words.Task.TheVariants.{Solve, Print}
 use Rattle.hp_cli.specs.Answer.{Answers, Does, IsDone, Prints, Solves}
 use Rattle.hp_cli.specs.Laws.{IsDetermined, OneAnswer}
 use Rattle.hp_cli.specs.Refusals.{limit_text, sort_text, spelling_text, usage_text}
-use Rattle.hp_cli.specs.Verdicts.{InScope, IsCounted, IsNotBuilt, IsRead, IsSorted, Missorted, Misspelled, Printed, TooLong, TooMany, TooManyNames}
+use Rattle.hp_cli.specs.Verdicts.{InScope, IsCounted, IsNotBuilt, IsRead, IsSorted, Missorted, Misspelled, Printed, TooLong, TooMany, TooManyNames, TooWide, coefficient}
 use Rattle.hp_cli.specs.Words.{Asks, IsUsage}
 use Rattle.hp_cli.proofs.Settled.{printing_solves}
 
@@ -34,6 +35,7 @@ data SolveEnds (bytes text : List ℕ) : Status → Type 0 where
   missorted : Missorted bytes text → SolveEnds bytes text Sort
   many : TooMany bytes text → SolveEnds bytes text Limit
   names : TooManyNames bytes text → SolveEnds bytes text Limit
+  wide : TooWide bytes text → SolveEnds bytes text Limit
   form : IsNotBuilt bytes text → SolveEnds bytes text NotBuilt
   verdict : (p : Problem) (s : Status) → InScope bytes p → (IsDetermined s → ⊥) → SolveEnds bytes text s
 
@@ -45,6 +47,7 @@ print_ends bytes text Usage h = absurd h
 print_ends bytes text ReadFault h = absurd h
 print_ends bytes text WriteFault h = absurd h
 print_ends bytes text Sort h = absurd h
+print_ends bytes text Overflow h = absurd h
 print_ends bytes text Sat h = absurd h
 print_ends bytes text Spent h = absurd h
 print_ends bytes text Memory h = absurd h
@@ -56,8 +59,10 @@ solve_ends most bytes text Spelling h = misspelled h
 solve_ends most bytes text Sort h = missorted h
 solve_ends most bytes text Limit (inl h) = long h
 solve_ends most bytes text Limit (inr (inl h)) = many h
-solve_ends most bytes text Limit (inr (inr h)) = names h
+solve_ends most bytes text Limit (inr (inr (inl h))) = names h
+solve_ends most bytes text Limit (inr (inr (inr h))) = wide h
 solve_ends most bytes text NotBuilt h = form h
+solve_ends most bytes text Overflow h = verdict h.problem Overflow h.scope (λ d. d tt)
 solve_ends most bytes text Sat h = verdict h.problem Sat h.scope (λ d. d tt)
 solve_ends most bytes text Unsat h = verdict h.problem Unsat h.scope (λ d. d tt)
 solve_ends most bytes text Spent h = verdict h.problem Spent h.scope (λ d. d tt)
@@ -120,8 +125,30 @@ module _ (bytes text other : List ℕ) where
       let same = one_read a.problem p a.counted.sorted.read s.counted.sorted.read in
       omega (arith, subst (λ (q : Problem). 4000 < length q.decls) same a.size, s.names)
 
-  index_or_other : (p q : Problem) → IsCounted bytes p → IsCounted bytes q → IsIdxProblem p → (IsIdxProblem q → ⊥) → ⊥
-  index_or_other p q c d is not_index = not_index (subst IsIdxProblem (one_read p q c.sorted.read d.sorted.read) is)
+  wide_or_narrow : (p : Problem) → TooWide bytes text → InScope bytes p → ⊥
+  wide_or_narrow p a s =
+      let same = one_read a.problem p a.counted.sorted.read s.counted.sorted.read in
+      let none : None ≡ Some a.clause = sym s.narrow ∙ ap first_wide (sym same) ∙ a.cause in
+      cc
+
+  few_or_names : (a : TooWide bytes text) (b : TooManyNames bytes other) → ⊥
+  few_or_names a b =
+      let same = one_read b.problem a.problem b.counted.sorted.read a.counted.sorted.read in
+      omega (arith, subst (λ (q : Problem). 4000 < length q.decls) same b.size, a.few)
+
+  names_or_wide : (a : TooManyNames bytes text) (b : TooWide bytes other) → ⊥
+  names_or_wide a b =
+      let same = one_read a.problem b.problem a.counted.sorted.read b.counted.sorted.read in
+      omega (arith, subst (λ (q : Problem). 4000 < length q.decls) same a.size, b.few)
+
+  one_width : TooWide bytes text → TooWide bytes other → text ≡ other
+  one_width a b =
+      let same = one_read a.problem b.problem a.counted.sorted.read b.counted.sorted.read in
+      let clause = some_same a.clause b.clause (sym a.cause ∙ ap first_wide same ∙ b.cause) in
+      a.written ∙ (λ i. limit_text (coefficient (length (same i).decls + clause i))) ∙ sym b.written
+
+  constants_or_other : (p q : Problem) → IsCounted bytes p → IsCounted bytes q → IsScopedProblem p → (IsScopedProblem q → ⊥) → ⊥
+  constants_or_other p q c d is not_constants = not_constants (subst IsScopedProblem (one_read p q c.sorted.read d.sorted.read) is)
 
   -- ---- one end
   one_print_end : (s t : Status) → PrintEnds bytes text s → PrintEnds bytes other t → (s ≡ t) × (text ≡ other)
@@ -141,6 +168,7 @@ module _ (bytes text other : List ℕ) where
   one_solve_end _ _ (misspelled a) (missorted b) d = absurd (misspelled_or_read b.problem a b.read)
   one_solve_end _ _ (misspelled a) (many b) d = absurd (misspelled_or_read b.problem a b.sorted.read)
   one_solve_end _ _ (misspelled a) (names b) d = absurd (misspelled_or_read b.problem a b.counted.sorted.read)
+  one_solve_end _ _ (misspelled a) (wide b) d = absurd (misspelled_or_read b.problem a b.counted.sorted.read)
   one_solve_end _ _ (misspelled a) (form b) d = absurd (misspelled_or_read b.problem a b.counted.sorted.read)
   one_solve_end _ _ (misspelled a) (verdict q t b n) d = absurd (misspelled_or_read q a b.counted.sorted.read)
   one_solve_end _ _ (long a) (misspelled b) d = absurd (long_or_short a b.size)
@@ -148,6 +176,7 @@ module _ (bytes text other : List ℕ) where
   one_solve_end _ _ (long a) (missorted b) d = absurd (long_or_short a b.read.size)
   one_solve_end _ _ (long a) (many b) d = absurd (long_or_short a b.sorted.read.size)
   one_solve_end _ _ (long a) (names b) d = absurd (long_or_short a b.counted.sorted.read.size)
+  one_solve_end _ _ (long a) (wide b) d = absurd (long_or_short a b.counted.sorted.read.size)
   one_solve_end _ _ (long a) (form b) d = absurd (long_or_short a b.counted.sorted.read.size)
   one_solve_end _ _ (long a) (verdict q t b n) d = absurd (long_or_short a b.counted.sorted.read.size)
   one_solve_end _ _ (missorted a) (misspelled b) d = absurd (read_or_misspelled a.problem a.read b)
@@ -155,6 +184,7 @@ module _ (bytes text other : List ℕ) where
   one_solve_end _ _ (missorted a) (missorted b) d = (refl, one_sort a b)
   one_solve_end _ _ (missorted a) (many b) d = absurd (missorted_or_sorted b.problem a b.sorted)
   one_solve_end _ _ (missorted a) (names b) d = absurd (missorted_or_sorted b.problem a b.counted.sorted)
+  one_solve_end _ _ (missorted a) (wide b) d = absurd (missorted_or_sorted b.problem a b.counted.sorted)
   one_solve_end _ _ (missorted a) (form b) d = absurd (missorted_or_sorted b.problem a b.counted.sorted)
   one_solve_end _ _ (missorted a) (verdict q t b n) d = absurd (missorted_or_sorted q a b.counted.sorted)
   one_solve_end _ _ (many a) (misspelled b) d = absurd (read_or_misspelled a.problem a.sorted.read b)
@@ -162,6 +192,7 @@ module _ (bytes text other : List ℕ) where
   one_solve_end _ _ (many a) (missorted b) d = absurd (sorted_or_missorted a.problem a.sorted b)
   one_solve_end _ _ (many a) (many b) d = (refl, one_count a b)
   one_solve_end _ _ (many a) (names b) d = absurd (many_or_counted b.problem a b.counted)
+  one_solve_end _ _ (many a) (wide b) d = absurd (many_or_counted b.problem a b.counted)
   one_solve_end _ _ (many a) (form b) d = absurd (many_or_counted b.problem a b.counted)
   one_solve_end _ _ (many a) (verdict q t b n) d = absurd (many_or_counted q a b.counted)
   one_solve_end _ _ (names a) (misspelled b) d = absurd (read_or_misspelled a.problem a.counted.sorted.read b)
@@ -169,15 +200,25 @@ module _ (bytes text other : List ℕ) where
   one_solve_end _ _ (names a) (missorted b) d = absurd (sorted_or_missorted a.problem a.counted.sorted b)
   one_solve_end _ _ (names a) (many b) d = absurd (counted_or_many a.problem a.counted b)
   one_solve_end _ _ (names a) (names b) d = (refl, a.written ∙ sym b.written)
-  one_solve_end _ _ (names a) (form b) d = absurd (index_or_other a.problem b.problem a.counted b.counted a.index b.other)
+  one_solve_end _ _ (names a) (wide b) d = absurd (names_or_wide a b)
+  one_solve_end _ _ (names a) (form b) d = absurd (constants_or_other a.problem b.problem a.counted b.counted a.constants b.other)
   one_solve_end _ _ (names a) (verdict q t b n) d = absurd (names_or_few q a b)
+  one_solve_end _ _ (wide a) (misspelled b) d = absurd (read_or_misspelled a.problem a.counted.sorted.read b)
+  one_solve_end _ _ (wide a) (long b) d = absurd (short_or_long a.counted.sorted.read.size b)
+  one_solve_end _ _ (wide a) (missorted b) d = absurd (sorted_or_missorted a.problem a.counted.sorted b)
+  one_solve_end _ _ (wide a) (many b) d = absurd (counted_or_many a.problem a.counted b)
+  one_solve_end _ _ (wide a) (names b) d = absurd (few_or_names a b)
+  one_solve_end _ _ (wide a) (wide b) d = (refl, one_width a b)
+  one_solve_end _ _ (wide a) (form b) d = absurd (constants_or_other a.problem b.problem a.counted b.counted a.constants b.other)
+  one_solve_end _ _ (wide a) (verdict q t b n) d = absurd (wide_or_narrow q a b)
   one_solve_end _ _ (form a) (misspelled b) d = absurd (read_or_misspelled a.problem a.counted.sorted.read b)
   one_solve_end _ _ (form a) (long b) d = absurd (short_or_long a.counted.sorted.read.size b)
   one_solve_end _ _ (form a) (missorted b) d = absurd (sorted_or_missorted a.problem a.counted.sorted b)
   one_solve_end _ _ (form a) (many b) d = absurd (counted_or_many a.problem a.counted b)
-  one_solve_end _ _ (form a) (names b) d = absurd (index_or_other b.problem a.problem b.counted a.counted b.index a.other)
+  one_solve_end _ _ (form a) (names b) d = absurd (constants_or_other b.problem a.problem b.counted a.counted b.constants a.other)
+  one_solve_end _ _ (form a) (wide b) d = absurd (constants_or_other b.problem a.problem b.counted a.counted b.constants a.other)
   one_solve_end _ _ (form a) (form b) d = (refl, a.written ∙ sym b.written)
-  one_solve_end _ _ (form a) (verdict q t b n) d = absurd (index_or_other q a.problem b.counted a.counted b.index a.other)
+  one_solve_end _ _ (form a) (verdict q t b n) d = absurd (constants_or_other q a.problem b.counted a.counted b.constants a.other)
   one_solve_end s t (verdict p _ a n) b d = absurd (n d)
 
 -- ---- words
@@ -201,6 +242,7 @@ answers_by words bytes text Done h = done Done h
 answers_by words bytes text Spelling h = done Spelling h
 answers_by words bytes text Sort h = done Sort h
 answers_by words bytes text Limit h = done Limit h
+answers_by words bytes text Overflow h = done Overflow h
 answers_by words bytes text Sat h = done Sat h
 answers_by words bytes text Unsat h = done Unsat h
 answers_by words bytes text Spent h = done Spent h

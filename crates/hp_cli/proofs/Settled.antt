@@ -5,13 +5,14 @@ use Rattle.hp_ast.specs.declared.problem.Problem.{Problem}
 use Rattle.hp_read.proofs.BytesLaws.{no_fault, one_problem}
 use Rattle.hp_sorts.specs.Faults.{sort_fault}
 use Rattle.hp_sorts.specs.Limits.{passed}
-use Rattle.hp_scope.specs.Laws.{IsIdxProblem}
+use Rattle.hp_ground.specs.Lines.{first_wide}
+use Rattle.hp_scope.specs.Laws.{IsScopedProblem}
 use Rattle.hp_cli.specs.declared.answer.Status.{Status}
-use Rattle.hp_cli.specs.declared.answer.Status.TheVariants.{Done, Usage, ReadFault, WriteFault, Spelling, Sort, Limit, Sat, Spent, Memory, NotBuilt, Unsat}
+use Rattle.hp_cli.specs.declared.answer.Status.TheVariants.{Done, Usage, ReadFault, WriteFault, Spelling, Sort, Limit, Overflow, Sat, Spent, Memory, NotBuilt, Unsat}
 use Rattle.hp_cli.specs.declared.words.Task.{Task}
 use Rattle.hp_cli.specs.declared.words.Task.TheVariants.{Solve, Print}
 use Rattle.hp_cli.specs.Answer.{Does, IsDone, IsSettled, IsSolving, Solves, Stands}
-use Rattle.hp_cli.specs.Verdicts.{InScope, IsNotBuilt, Missorted, Misspelled, TooLong, TooMany, TooManyNames}
+use Rattle.hp_cli.specs.Verdicts.{InScope, IsNotBuilt, Missorted, Misspelled, TooLong, TooMany, TooManyNames, TooWide}
 use Rattle.hp_cli.specs.Words.{Asks, IsSolve}
 
 -- ---- words
@@ -53,18 +54,26 @@ module _ (bytes text : List ℕ) (p : Problem) (scope : InScope bytes p) where
       let few = subst (λ (q : Problem). length q.decls ≤ 4000) same scope.names in
       omega (arith, m.size, few)
 
+  no_width : TooWide bytes text → ⊥
+  no_width m =
+      let same = one_problem bytes p m.problem scope.counted.sorted.read.spelled m.counted.sorted.read.spelled in
+      let none : None ≡ Some m.clause = sym scope.narrow ∙ ap first_wide same ∙ m.cause in
+      cc
+
   no_other_form : IsNotBuilt bytes text → ⊥
   no_other_form m =
       let same = one_problem bytes p m.problem scope.counted.sorted.read.spelled m.counted.sorted.read.spelled in
-      m.other (subst IsIdxProblem same scope.index)
+      m.other (subst IsScopedProblem same scope.constants)
 
   solves_settled : (most : ℕ) (s : Status) → Solves most bytes text s → IsSettled s
   solves_settled most Spelling h = absurd (no_misspelling h)
   solves_settled most Sort h = absurd (no_missorting h)
   solves_settled most Limit (inl h) = absurd (no_length h)
   solves_settled most Limit (inr (inl h)) = absurd (no_counts h)
-  solves_settled most Limit (inr (inr h)) = absurd (no_names h)
+  solves_settled most Limit (inr (inr (inl h))) = absurd (no_names h)
+  solves_settled most Limit (inr (inr (inr h))) = absurd (no_width h)
   solves_settled most NotBuilt h = absurd (no_other_form h)
+  solves_settled most Overflow h = tt
   solves_settled most Sat h = tt
   solves_settled most Unsat h = tt
   solves_settled most Spent h = tt
@@ -88,6 +97,7 @@ module _ (bytes text : List ℕ) (p : Problem) (scope : InScope bytes p) where
   stands_settled words Sort solving h = done_settled words Sort solving h
   stands_settled words Limit solving h = done_settled words Limit solving h
   stands_settled words NotBuilt solving h = done_settled words NotBuilt solving h
+  stands_settled words Overflow solving h = tt
   stands_settled words Sat solving h = tt
   stands_settled words Unsat solving h = tt
   stands_settled words Spent solving h = tt

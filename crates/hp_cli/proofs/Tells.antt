@@ -6,7 +6,7 @@ use lib.Pointwise.{pointwise}
 use Rattle.std.specs.declared.option.Option.{Option}
 use Rattle.std.specs.Io.KnownBytes.{Appends}
 use Rattle.hp_cli.specs.declared.answer.Status.{Status}
-use Rattle.hp_cli.specs.declared.answer.Status.TheVariants.{Done, Usage, ReadFault, WriteFault, Spelling, Sort, Limit, Sat, Spent, Memory, NotBuilt, Unsat}
+use Rattle.hp_cli.specs.declared.answer.Status.TheVariants.{Done, Usage, ReadFault, WriteFault, Spelling, Sort, Limit, Overflow, Sat, Spent, Memory, NotBuilt, Unsat}
 use Rattle.hp_cli.specs.Answer.{ToldWritten, Told, Answers, Begins, Stands, IsWhole}
 use Rattle.hp_cli.specs.Transfer.{WritesFront}
 
@@ -38,6 +38,7 @@ whole_stands words bytes out Done w a = a
 whole_stands words bytes out Spelling w a = a
 whole_stands words bytes out Sort w a = a
 whole_stands words bytes out Limit w a = a
+whole_stands words bytes out Overflow w a = a
 whole_stands words bytes out Sat w a = a
 whole_stands words bytes out Unsat w a = a
 whole_stands words bytes out Spent w a = a

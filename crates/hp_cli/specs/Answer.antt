@@ -4,12 +4,12 @@ use Rattle.std.specs.declared.option.Option.{Option}
 use Rattle.std.specs.declared.option.Option.TheVariants.{Some, None}
 use Rattle.std.specs.Io.KnownBytes.{IsAtEnd}
 use Rattle.hp_cli.specs.declared.answer.Status.{Status}
-use Rattle.hp_cli.specs.declared.answer.Status.TheVariants.{Done, Usage, ReadFault, WriteFault, Spelling, Sort, Limit, Sat, Spent, Memory, NotBuilt, Unsat}
+use Rattle.hp_cli.specs.declared.answer.Status.TheVariants.{Done, Usage, ReadFault, WriteFault, Spelling, Sort, Limit, Overflow, Sat, Spent, Memory, NotBuilt, Unsat}
 use Rattle.hp_cli.specs.declared.words.Task.{Task}
 use Rattle.hp_cli.specs.declared.words.Task.TheVariants.{Solve, Print}
 use Rattle.hp_cli.specs.Words.{Asks, IsUsage}
 use Rattle.hp_cli.specs.Refusals.{usage_text}
-use Rattle.hp_cli.specs.Verdicts.{IsNotBuilt, Missorted, Misspelled, OutOfNodes, Printed, Satisfiable, TooLong, TooMany, TooManyNames, Unsatisfiable}
+use Rattle.hp_cli.specs.Verdicts.{IsNotBuilt, Missorted, Misspelled, OutOfNodes, Printed, Satisfiable, Strained, TooLong, TooMany, TooManyNames, TooWide, Unsatisfiable}
 
 -- the exit status
 abbrev pub code : Status → ℕ
@@ -20,6 +20,7 @@ code WriteFault = 4
 code Spelling = 5
 code Sort = 6
 code Limit = 8
+code Overflow = 9
 code Sat = 10
 code Spent = 11
 code Memory = 12
@@ -36,6 +37,7 @@ Prints bytes text Usage = ⊥
 Prints bytes text ReadFault = ⊥
 Prints bytes text WriteFault = ⊥
 Prints bytes text Sort = ⊥
+Prints bytes text Overflow = ⊥
 Prints bytes text Sat = ⊥
 Prints bytes text Spent = ⊥
 Prints bytes text Memory = ⊥
@@ -43,12 +45,13 @@ Prints bytes text NotBuilt = ⊥
 Prints bytes text Unsat = ⊥
 
 -- A search comes last: before it spelling and size, then names and sorts, then the limits of a text, and then the form of
--- the problem and the limit of its names.
+-- the problem, the limit of its names and that of its numbers.
 abbrev pub Solves : ℕ → List ℕ → List ℕ → Status → Type 0
 Solves most bytes text Spelling = Misspelled bytes text
 Solves most bytes text Sort = Missorted bytes text
-Solves most bytes text Limit = TooLong bytes text ⊎ (TooMany bytes text ⊎ TooManyNames bytes text)
+Solves most bytes text Limit = TooLong bytes text ⊎ (TooMany bytes text ⊎ (TooManyNames bytes text ⊎ TooWide bytes text))
 Solves most bytes text NotBuilt = IsNotBuilt bytes text
+Solves most bytes text Overflow = Strained bytes text
 Solves most bytes text Sat = Satisfiable bytes text
 Solves most bytes text Unsat = Unsatisfiable bytes text
 Solves most bytes text Spent = OutOfNodes bytes text most
@@ -75,6 +78,7 @@ Answers words bytes text Done = IsDone words bytes text Done
 Answers words bytes text Spelling = IsDone words bytes text Spelling
 Answers words bytes text Sort = IsDone words bytes text Sort
 Answers words bytes text Limit = IsDone words bytes text Limit
+Answers words bytes text Overflow = IsDone words bytes text Overflow
 Answers words bytes text Sat = IsDone words bytes text Sat
 Answers words bytes text Unsat = IsDone words bytes text Unsat
 Answers words bytes text Spent = IsDone words bytes text Spent
@@ -100,6 +104,7 @@ Stands words bytes out Done = Answers words bytes out Done
 Stands words bytes out Spelling = Answers words bytes out Spelling
 Stands words bytes out Sort = Answers words bytes out Sort
 Stands words bytes out Limit = Answers words bytes out Limit
+Stands words bytes out Overflow = Answers words bytes out Overflow
 Stands words bytes out Sat = Answers words bytes out Sat
 Stands words bytes out Unsat = Answers words bytes out Unsat
 Stands words bytes out Spent = Answers words bytes out Spent
@@ -118,6 +123,7 @@ IsWhole Done = Unit {0}
 IsWhole Spelling = Unit {0}
 IsWhole Sort = Unit {0}
 IsWhole Limit = Unit {0}
+IsWhole Overflow = Unit {0}
 IsWhole Sat = Unit {0}
 IsWhole Unsat = Unit {0}
 IsWhole Spent = Unit {0}
@@ -133,6 +139,7 @@ IsDecided Done = Unit {0}
 IsDecided Spelling = Unit {0}
 IsDecided Sort = Unit {0}
 IsDecided Limit = Unit {0}
+IsDecided Overflow = Unit {0}
 IsDecided Sat = Unit {0}
 IsDecided Unsat = Unit {0}
 IsDecided Spent = Unit {0}
@@ -162,8 +169,9 @@ HasEnded before after status = IsAtEnd after ⊎ ((status ≡ Limit) × IfSome b
 abbrev pub IsSolving : List (List ℕ) → Type 0
 IsSolving words = (most : ℕ) × Asks words (Solve most)
 
--- a verdict; or a fault of the source or the sink, or want of memory
+-- a verdict, or a number that is too wide on the way to one; or a fault of the source or the sink, or want of memory
 abbrev pub IsSettled : Status → Type 0
+IsSettled Overflow = Unit {0}
 IsSettled Sat = Unit {0}
 IsSettled Unsat = Unit {0}
 IsSettled Spent = Unit {0}

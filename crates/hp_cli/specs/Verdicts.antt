@@ -1,8 +1,8 @@
 -- What the program says of the bytes of an input.
-use Rattle.std.specs.Prelude.{◌≡◌, ◌≢◌, ◌⊎◌, ℕ, ◌<◌, ◌≤◌, List, [], ◌++◌, codes, length, Some, None}
+use Rattle.std.specs.Prelude.{◌≡◌, ◌≢◌, ◌⊎◌, ℕ, ◌<◌, ◌≤◌, List, [], ◌++◌, ◌+◌, codes, length, Some, None}
 use Rattle.std.specs.Fmt.{decimal}
 use Rattle.hp_ast.specs.declared.limit.Limit.{Limit}
-use Rattle.hp_ast.specs.declared.limit.Which.TheVariants.{Bytes, Names}
+use Rattle.hp_ast.specs.declared.limit.Which.TheVariants.{Bytes, Names, Coefficient}
 use Rattle.hp_ast.specs.declared.problem.Problem.{Problem}
 use Rattle.hp_ast.specs.Printing.{problem_text}
 use Rattle.hp_base.specs.declared.names.Ground.{Ground}
@@ -21,9 +21,16 @@ use Rattle.hp_cert.specs.declared.refutation.Refutation.{Refutation}
 use Rattle.hp_cert.specs.Entries.{AreSplitLines, all_defs}
 use Rattle.hp_cert.specs.Refutation.{refutation_text}
 use Rattle.hp_cert.specs.Refutes.{Refutes}
-use Rattle.hp_norm.specs.Ground.{IsGroundOf}
-use Rattle.hp_scope.specs.Laws.{IsIdxProblem}
+use Rattle.hp_descent.specs.declared.answer.Strain.{Strain}
+use Rattle.hp_search.specs.Search.{IsHonestStrain}
+use Rattle.hp_ground.specs.Lines.{IsGroundOf, first_wide}
+use Rattle.hp_cert.specs.Overflow.{overflow_text}
+use Rattle.hp_scope.specs.Laws.{IsScopedProblem}
 use Rattle.hp_cli.specs.Refusals.{line, limit_text, not_built_text, sort_text, spelling_text}
+
+-- the limit on numbers, with the item that passes it
+abbrev pub coefficient : ℕ → Limit
+coefficient item = record { which = Coefficient; most = 0; item = item }
 
 -- ---- how far an input comes
 -- at most 1,048,576 bytes, and they spell the problem
@@ -41,12 +48,13 @@ pub record IsCounted (bytes : List ℕ) (p : Problem) : Type 0 where
   pub sorted : IsSorted bytes p
   pub counted : passed p ≡ None
 
--- It declares constants of sort idx alone, at most 4,000 of them, no clause has variables, and each atom is of sort
--- idx: the texts that get a verdict.
+-- It declares constants of sort idx and num alone, at most 4,000 of them, no clause has variables, each atom is of one of
+-- these sorts, and no number of a normal form passes 2^127 - 1: the texts that get a verdict, or a strain.
 pub record InScope (bytes : List ℕ) (p : Problem) : Type 0 where
   pub counted : IsCounted bytes p
-  pub index : IsIdxProblem p
+  pub constants : IsScopedProblem p
   pub names : length p.decls ≤ 4000
+  pub narrow : first_wide p ≡ None
 
 -- ---- refusals
 pub record Misspelled (bytes text : List ℕ) : Type 0 where
@@ -76,20 +84,30 @@ pub record TooMany (bytes text : List ℕ) : Type 0 where
   pub cause : passed problem ≡ Some limit_of
   pub written : text ≡ limit_text limit_of
 
--- more index constants
+-- more constants
 pub record TooManyNames (bytes text : List ℕ) : Type 0 where
   pub problem : Problem
   pub counted : IsCounted bytes problem
-  pub index : IsIdxProblem problem
+  pub constants : IsScopedProblem problem
   pub size : 4000 < length problem.decls
   pub written : text ≡ limit_text (limit Names 4000)
 
--- a problem of a form that isn't decided so far: it declares something else than index constants, or a clause has
--- variables, or an atom is of another sort
+-- a number of a normal form passes 2^127 - 1, first in this clause; items are the declarations and then the clauses
+pub record TooWide (bytes text : List ℕ) : Type 0 where
+  pub problem : Problem
+  pub counted : IsCounted bytes problem
+  pub constants : IsScopedProblem problem
+  pub few : length problem.decls ≤ 4000
+  pub clause : ℕ
+  pub cause : first_wide problem ≡ Some clause
+  pub written : text ≡ limit_text (coefficient (length problem.decls + clause))
+
+-- a problem of a form that isn't decided so far: it declares something else than constants of sort idx and num, or a clause
+-- has variables, or an atom is of sort ptr
 pub record IsNotBuilt (bytes text : List ℕ) : Type 0 where
   pub problem : Problem
   pub counted : IsCounted bytes problem
-  pub other : IsIdxProblem problem → ⊥
+  pub other : IsScopedProblem problem → ⊥
   pub written : text ≡ not_built_text
 
 -- ---- answers
@@ -107,6 +125,17 @@ pub record Satisfiable (bytes text : List ℕ) : Type 0 where
   pub structure : Structure
   pub satisfied : Satisfies structure problem
   pub written : text ≡ line (codes "satisfiable") ++ structure_text structure
+
+-- Over an honest path through the ground lines of the problem a number passes 2^127 - 1 as the text says: in the descent over
+-- the path's literals over fractions, or in the sum of a literal at values that satisfy them.
+pub record Strained (bytes text : List ℕ) : Type 0 where
+  pub problem : Problem
+  pub scope : InScope bytes problem
+  pub lines : Ground
+  pub ground : IsGroundOf problem lines
+  pub strain : Strain
+  pub strained : IsHonestStrain (sorts lines.names) lines.lines strain
+  pub written : text ≡ overflow_text strain
 
 -- No structure satisfies the problem, and the text is a refutation: each definition and line in it is that of the problem
 -- with its number, each split is of a listed line, and the tree is whole with valid leaves.

@@ -17,6 +17,8 @@ pub enum Status {
     Sort,
     /// A limit is passed.
     Limit,
+    /// A number passes 2^127 - 1 on the way to a verdict.
+    Overflow,
     /// A structure satisfies the problem.
     Sat,
     /// The search came to its limit of nodes.
@@ -45,6 +47,7 @@ impl Status {
             Status::Spelling => 5,
             Status::Sort => 6,
             Status::Limit => 8,
+            Status::Overflow => 9,
             Status::Sat => 10,
             Status::Spent => 11,
             Status::Memory => 12,

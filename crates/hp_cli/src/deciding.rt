@@ -8,14 +8,14 @@ ghost use Rattle.hp_read.specs.Spells.{IsFault};
 ghost use Rattle.hp_sorts.specs.Limits.{limit as limit_of};
 ghost use Rattle.hp_cli.specs.Answer.{Does, Prints, Solves};
 ghost use Rattle.hp_cli.specs.Refusals.{limit_text, line};
-ghost use Rattle.hp_cli.specs.Verdicts.{IsCounted, IsRead};
+ghost use Rattle.hp_cli.specs.Verdicts.{IsCounted, IsRead, coefficient};
 ghost use Rattle.hp_cli.specs.Words.{IsTask};
 
 use crate::answer::Status;
 use crate::refusals;
 use crate::words::Task;
 use hp_ast::{Limit, Problem, Which};
-use hp_cert::{Refutation, body, write};
+use hp_cert::{Refutation, body, overflow_text, write};
 use hp_model::{Structure, write_structure};
 use hp_num::Text;
 use hp_read::{ReadErr, read};
@@ -171,6 +171,11 @@ fn settle(alloc: Global, bytes: &[u8], problem: &Problem, most: u64) -> Result<A
             status: Status::NotBuilt,
         }),
         Solved::ManyNames => many_names(alloc),
+        Solved::Wide(item) => wide_number(alloc, item),
+        Solved::Strained(strain) => Ok(Answer {
+            text: overflow_text(alloc, &strain)?,
+            status: Status::Overflow,
+        }),
         Solved::Sat(structure) => Ok(Answer {
             text: sat_text(alloc, &structure)?,
             status: Status::Sat,
@@ -194,6 +199,21 @@ fn many_names(alloc: Global) -> Result<Answer, AllocError>
         which: Which::Names,
         most: MOST_NAMES,
         item: 0,
+    };
+    Ok(Answer {
+        text: refusals::limit(alloc, limit)?,
+        status: Status::Limit,
+    })
+}
+
+/// The answer where a number of a normal form passes 2^127 - 1, first in the clause that is this item.
+fn wide_number(alloc: Global, item: u32) -> Result<Answer, AllocError>
+    ensures { IfOk result (λ answer. (answer.status ≡ Status.Limit) × (answer.text ≡ limit_text (coefficient item))) }
+{
+    let limit = Limit {
+        which: Which::Coefficient,
+        most: 0,
+        item,
     };
     Ok(Answer {
         text: refusals::limit(alloc, limit)?,

@@ -104,7 +104,12 @@ fn texts_are_answered(rt: HostRuntime) -> Result<(), Fail> {
             0,
             b"profile 1;\nquery f(c, 1/2) != -x;\n",
         ),
-        ("solve", b"query 1 < 0;", 13, b"not built\n"),
+        (
+            "solve",
+            b"const c: num; query 3 * c - 1/2 = 1/3;",
+            10,
+            b"satisfiable\nuniverse 1\nconst c = 5/18\n",
+        ),
     ];
     for (word, text, status, wanted) in table {
         let (found, written) = answer(rt.alloc(), &[word], text)?;
@@ -116,7 +121,7 @@ fn texts_are_answered(rt: HostRuntime) -> Result<(), Fail> {
 
 #[test]
 fn refusals_come_in_order(rt: HostRuntime) -> Result<(), Fail> {
-    let table: [(&[u8], u8, &[u8]); 14] = [
+    let table: [(&[u8], u8, &[u8]); 15] = [
         (b"const c: num;\nquery c < ", 5, b"syntax 24\n"),
         (b"query 1000000000000000000 < 0;", 5, b"long-numeral 6\n"),
         (
@@ -148,7 +153,12 @@ fn refusals_come_in_order(rt: HostRuntime) -> Result<(), Fail> {
             8,
             b"limit arguments 4\n",
         ),
-        (b"const c: num;", 13, b"not built\n"),
+        (b"fun f(num): num level 1;", 13, b"not built\n"),
+        (
+            b"const c: num; query 999999999999999999 * (999999999999999999 * (999999999999999999 * c)) < 0; query false;",
+            8,
+            b"limit coefficient item 2\n",
+        ),
         (b"const i: idx; clause [x:idx] x < i;", 13, b"not built\n"),
         (b"const u: ptr; query u = null;", 13, b"not built\n"),
     ];
@@ -184,7 +194,7 @@ fn limits_are_told(rt: HostRuntime) -> Result<(), Fail> {
         (too_long.as_slice(), 8, b"limit bytes 1048576\n"),
         (blanks.as_slice(), 10, b"satisfiable\nuniverse 1\n"),
         (constants.as_slice(), 8, b"limit names 4000\n"),
-        (fractions.as_slice(), 13, b"not built\n"),
+        (fractions.as_slice(), 8, b"limit names 4000\n"),
         (queries.as_slice(), 8, b"limit clauses 2000\n"),
     ];
     for (text, status, wanted) in table {
@@ -223,18 +233,94 @@ fn relations_and_guards(rt: HostRuntime) -> Result<(), Fail> {
         for at in 0..3 {
             let (yes, no) = if holds[at] { (10, 20) } else { (20, 10) };
             let value = at + 2;
-            let head = format!(in rt.alloc();
-                "const i: idx; query i {relation} 3; query i = {value};"
-            )?;
-            let (found, _) = answer(rt.alloc(), &["solve"], head.as_bytes())?;
-            assert_eq!(rt; found, yes, "{head}");
-            let guard = format!(in rt.alloc();
-                "const i: idx; query i {relation} 3 -> false; query {value} = i;"
-            )?;
-            let (found, _) = answer(rt.alloc(), &["solve"], guard.as_bytes())?;
-            assert_eq!(rt; found, no, "{guard}");
+            for sort in ["idx", "num"] {
+                let head = format!(in rt.alloc();
+                    "const i: {sort}; query i {relation} 3; query i = {value};"
+                )?;
+                let (found, _) = answer(rt.alloc(), &["solve"], head.as_bytes())?;
+                assert_eq!(rt; found, yes, "{head}");
+                let guard = format!(in rt.alloc();
+                    "const i: {sort}; query i {relation} 3 -> false; query {value} = i;"
+                )?;
+                let (found, _) = answer(rt.alloc(), &["solve"], guard.as_bytes())?;
+                assert_eq!(rt; found, no, "{guard}");
+            }
         }
     }
+    Ok(())
+}
+
+#[test]
+fn fractions_are_decided(rt: HostRuntime) -> Result<(), Fail> {
+    let table: [(&[u8], u8); 12] = [
+        (b"query 1 < 0;", 20),
+        (b"query 0 < 1/2;", 10),
+        (b"const c, d: num; query c < d; query d <= c;", 20),
+        (b"const c, d: num; query c < d;", 10),
+        (b"const c: num; query 2 < c; query c < 3;", 10),
+        (b"const i: idx; query 2 < i; query i < 3;", 20),
+        (
+            b"const c, d: num; query 1/3 * c = d; query d = 1; query c != 3;",
+            20,
+        ),
+        (
+            b"const c, d: num; query c < d -> c < 0; query c = 1; query d >= 2;",
+            20,
+        ),
+        (
+            b"const c, d: num; query c < d & d < 5 -> c < 0; query c = 1; query d >= 2;",
+            10,
+        ),
+        (
+            b"const i: idx; const c: num; query i < 3 | c < 0; query i = 3; query c >= 0;",
+            20,
+        ),
+        (
+            b"const i: idx; const c: num; query i < 3 | c < 0; query i = 3; query c >= -1/2;",
+            10,
+        ),
+        (
+            b"const a, b, c: num; query b - a <= -999999999999999999; query c - b <= -999999999999999999; query a - c <= 1;",
+            20,
+        ),
+    ];
+    for (text, status) in table {
+        let (found, _) = answer(rt.alloc(), &["solve"], text)?;
+        assert_eq!(rt; found, status);
+    }
+    Ok(())
+}
+
+#[test]
+fn multipliers_are_shown(rt: HostRuntime) -> Result<(), Fail> {
+    let (found, written) = answer(rt.alloc(), &["solve"], b"query 1 < 0;")?;
+    assert_eq!(rt; found, 20);
+    let lines = b"unsatisfiable\nline 1 clause 1: 0 < -1\nsplit 1\nleaf num 1:";
+    assert!(rt; written.as_slice().starts_with(lines));
+    assert!(rt; !written.as_slice().ends_with(b"-1\n"));
+    Ok(())
+}
+
+#[test]
+fn wide_numbers_are_told(rt: HostRuntime) -> Result<(), Fail> {
+    let text =
+        b"const a, b, c, d: num; query a = 1; query b = 999999999999999999 * a; query c = 999999999999999999 * b; query d = 999999999999999999 * c;";
+    let (found, written) = answer(rt.alloc(), &["solve"], text)?;
+    assert_eq!(rt; found, 9);
+    assert!(rt; written.as_slice().starts_with(b"overflow path "));
+    Ok(())
+}
+
+#[test]
+fn few_nodes_may_not_do(rt: HostRuntime) -> Result<(), Fail> {
+    let text = b"const c: num; query c < 0 | c > 0; query c = 0;";
+    let (found, written) = answer(rt.alloc(), &["solve", "--nodes", "1"], text)?;
+    assert_eq!(rt; found, 11);
+    let first = b"spent 1\nline 1 clause 1: c < 0 | -c < 0\nsplit 1\nopen\nopen\n";
+    let second = b"spent 1\nline 2 clause 2: c = 0\nsplit 2\nopen\n";
+    assert!(rt; written.as_slice() == first.as_slice() || written.as_slice() == second.as_slice());
+    let (found, _) = answer(rt.alloc(), &["solve", "--nodes", "6"], text)?;
+    assert_eq!(rt; found, 20);
     Ok(())
 }
 

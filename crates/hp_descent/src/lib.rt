@@ -19,6 +19,7 @@ mod tests;
 
 pub use answer::{At, ChainAnswer, DescentErr, Form, NumAnswer, Place, RowStrain, Strain};
 pub use chained::value_at;
+pub use columns::columns_of;
 pub use decision::{decide, decide_chain};
 pub use fit::are_fit;
 pub use sums::{compare, holds};

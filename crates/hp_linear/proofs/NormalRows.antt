@@ -17,16 +17,17 @@ use Rattle.hp_base.specs.declared.literal.Part.{Part}
 use Rattle.hp_base.specs.declared.literal.Rel.{Rel}
 use Rattle.hp_base.specs.declared.literal.Rel.TheVariants as rel
 use Rattle.hp_base.specs.declared.literal.Lit.{Lit}
-use Rattle.hp_linear.specs.declared.atoms.Side.{Side}
-use Rattle.hp_linear.specs.declared.atoms.Step.{Step}
-use Rattle.hp_linear.specs.declared.atoms.Step.TheVariants.{Done, Other, Wide, Memory}
+use Rattle.hp_norm.specs.declared.atoms.Side.{Side}
+use Rattle.hp_norm.specs.declared.atoms.Step.{Step}
+use Rattle.hp_norm.specs.declared.atoms.Step.TheVariants.{Done, Other, Wide, Memory}
+use Rattle.hp_norm.specs.Literals.{taken}
 use Rattle.hp_linear.specs.declared.form.Summand.{Summand}
 use Rattle.hp_linear.specs.declared.form.Form.{Form}
 use Rattle.hp_linear.specs.declared.wholes.Row.{Row}
 use Rattle.hp_linear.specs.Steps.{◌>>=◌, behind}
 use Rattle.hp_linear.specs.Forms.{lin_of, minus_form}
 use Rattle.hp_linear.specs.Wholes.{denominator_of, lowest_row, one_if_zero, over, row_divisor, row_of, row_over, row_with, scaled_number, scaled_parts, scaled_row, whole_copies}
-use Rattle.hp_linear.specs.Literals.{apart_literals, compared, literals, num_literals, one_literal, row_literal, taken}
+use Rattle.hp_linear.specs.Literals.{apart_literals, compared, literals, num_literals, one_literal, row_literal}
 use Rattle.hp_linear.specs.Normal.{AreNormalParts, IsNormal}
 use Rattle.hp_linear.specs.Answers.{Pushed, Written}
 use Rattle.hp_linear.proofs.Refusals.{came, ok_same}

@@ -15,7 +15,8 @@ use Rattle.hp_norm.proofs.Semantics as index
 use Rattle.hp_linear.specs.declared.form.Form.{Form}
 use Rattle.hp_linear.specs.Steps.{Refusable, ◌>>=◌}
 use Rattle.hp_linear.specs.Forms.{copies, form_step, form_with, lin_of, minus_form, named_form, neg_form, number_form, plus_form, times_form}
-use Rattle.hp_linear.specs.Values.{entry_name, entry_value, form_value}
+use Rattle.hp_norm.specs.Values.{entry_name, entry_value}
+use Rattle.hp_linear.specs.Values.{form_value}
 use Rattle.hp_linear.specs.Laws.{TermsHaveFormValues}
 use Rattle.hp_linear.proofs.Refusals.{came, ok_same}
 use Rattle.hp_linear.proofs.Fields.{one_times, zero_plus}

@@ -1,7 +1,7 @@
 -- One of the literals of an atom is true exactly where the atom is as its side asks.
-use Rattle.std.proofs.Common.{◌≡◌, ◌↔◌, ◌⊎◌, Bool, true, false, not, List, [], ◌∷◌, Ok, map, refl, sym, ap, subst, ◌∙◌, inl, inr}
-use Rattle.hp_math.specs.Rational.{ℚ, ◌≤ℚ◌, ◌<ℚ◌, le_ℚ, lt_ℚ, eq_ℚ}
-use Rattle.hp_math.proofs.Field.{≤ℚ_refl, ≤ℚ_antisym, <ℚ_irrefl, le_ℚ-true, lt_ℚ-true, lt_ℚ-false}
+use Rattle.std.proofs.Common.{◌≡◌, ◌↔◌, ◌⊎◌, Bool, true, not, List, [], ◌∷◌, Ok, map, sym, subst, ◌∙◌, inl, inr}
+use Rattle.hp_math.specs.Rational.{ℚ, ◌<ℚ◌, le_ℚ, lt_ℚ, eq_ℚ}
+use Rattle.hp_math.proofs.Field.{le_ℚ-true, lt_ℚ-true}
 use Rattle.hp_ast.specs.declared.problem.Cmp.{Cmp}
 use Rattle.hp_ast.specs.declared.problem.Cmp.TheVariants.{Le, Lt, Eq, Ne, Ge, Gt}
 use Rattle.hp_base.specs.declared.literal.Rel.{Rel}
@@ -10,15 +10,14 @@ use Rattle.hp_base.specs.declared.literal.Lit.{Lit}
 use Rattle.hp_base.specs.Truth.{Values, Compares, LineIsTrue}
 use Rattle.hp_model.specs.Value.{compares}
 use Rattle.hp_norm.proofs.Numbers.{le_ℚ-from, lt_ℚ-from, eq_ℚ-from, eq_ℚ-true}
-use Rattle.hp_norm.proofs.Texts.{is_false, not_both}
-use Rattle.hp_norm.proofs.Truth.{compares-negated}
-use Rattle.hp_linear.specs.declared.atoms.Side.{Side}
-use Rattle.hp_linear.specs.declared.atoms.Side.TheVariants.{Guard, Head}
+use Rattle.hp_norm.specs.Literals.{taken}
+use Rattle.hp_norm.proofs.Truth.{less_differs, more_differs, not_true, one_less, taken_asks}
 use Rattle.hp_linear.specs.declared.form.Form.{Form}
 use Rattle.hp_linear.specs.Steps.{◌>>=◌}
 use Rattle.hp_linear.specs.Forms.{lin_of}
-use Rattle.hp_linear.specs.Literals.{apart_literals, compared, literals, one_literal, taken}
-use Rattle.hp_linear.specs.Values.{asked, entry_name, entry_value, form_value}
+use Rattle.hp_linear.specs.Literals.{apart_literals, compared, literals, one_literal}
+use Rattle.hp_norm.specs.Values.{asked, entry_name, entry_value}
+use Rattle.hp_linear.specs.Values.{form_value}
 use Rattle.hp_linear.specs.Laws.{LiteralsAreTrueWithAtoms}
 use Rattle.hp_linear.proofs.Compare.{and_then}
 use Rattle.hp_linear.proofs.Refusals.{came, ok_same}
@@ -34,25 +33,6 @@ lt_test a b = (lt_ℚ-from a b, lt_ℚ-true a b)
 
 eq_test : (a b : ℚ) → Compares rel.Eq a b ↔ (eq_ℚ a b ≡ true)
 eq_test a b = (eq_ℚ-from a b, eq_ℚ-true a b)
-
--- ---- numbers that differ
-not_true : (x : Bool) → not x ≡ true → x ≡ false
-not_true true e = absurd (cc)
-not_true false e = refl
-
-one_less : (a b : ℚ) → eq_ℚ a b ≡ false → (a <ℚ b) ⊎ (b <ℚ a)
-one_less a b e = by (lt_ℚ a b) (lt_ℚ b a) refl refl
-  where
-    by : (x y : Bool) → lt_ℚ a b ≡ x → lt_ℚ b a ≡ y → (a <ℚ b) ⊎ (b <ℚ a)
-    by true y s t = inl (lt_ℚ-true a b s)
-    by false true s t = inr (lt_ℚ-true b a t)
-    by false false s t = absurd (not_both (eq_ℚ a b) e (eq_ℚ-from a b (≤ℚ_antisym a b (lt_ℚ-false b a t) (lt_ℚ-false a b s))))
-
-less_differs : (a b : ℚ) → a <ℚ b → not (eq_ℚ a b) ≡ true
-less_differs a b h = ap not (is_false (eq_ℚ a b) (λ t. <ℚ_irrefl a b h (subst (λ x. b ≤ℚ x) (sym (eq_ℚ-true a b t)) (≤ℚ_refl b))))
-
-more_differs : (a b : ℚ) → b <ℚ a → not (eq_ℚ a b) ≡ true
-more_differs a b h = ap not (is_false (eq_ℚ a b) (λ t. <ℚ_irrefl b a h (subst (λ x. x ≤ℚ b) (sym (eq_ℚ-true a b t)) (≤ℚ_refl b))))
 
 module _ (v : Values) where
   -- ---- one literal, and two
@@ -96,10 +76,6 @@ module _ (v : Values) where
   literals_say Ne l m lits e = apart_says l m lits e
   literals_say Ge l m lits e = one_says rel.Le m l (le_ℚ (form_value v m) (form_value v l)) lits (le_test (form_value v m) (form_value v l)) e
   literals_say Gt l m lits e = one_says rel.Lt m l (lt_ℚ (form_value v m) (form_value v l)) lits (lt_test (form_value v m) (form_value v l)) e
-
-taken_asks : (side : Side) (cmp : Cmp) (a b : ℚ) → compares (taken side cmp) a b ≡ asked side (compares cmp a b)
-taken_asks Guard cmp a b = compares-negated cmp a b
-taken_asks Head cmp a b = refl
 
 pub literals_are_true_with_atoms : LiteralsAreTrueWithAtoms
 literals_are_true_with_atoms es functions side atom lits e =

@@ -4,8 +4,8 @@ use Rattle.std.specs.List.{All}
 use Rattle.hp_base.specs.declared.literal.Lit.{Lit}
 use Rattle.hp_linear.specs.declared.form.Refusal.{Refusal}
 use Rattle.hp_linear.specs.declared.form.Refusal.TheVariants as refused
-use Rattle.hp_linear.specs.declared.atoms.Step.{Step}
-use Rattle.hp_linear.specs.declared.atoms.Step.TheVariants.{Done, Other, Wide, Memory}
+use Rattle.hp_norm.specs.declared.atoms.Step.{Step}
+use Rattle.hp_norm.specs.declared.atoms.Step.TheVariants.{Done, Other, Wide, Memory}
 use Rattle.hp_linear.specs.declared.form.Summand.{Summand}
 use Rattle.hp_linear.specs.declared.summands.Taken.{Taken}
 use Rattle.hp_linear.specs.declared.summands.Taken.TheVariants.{Left, Right, Both}

@@ -8,11 +8,12 @@ use Rattle.hp_base.specs.Truth.{LineIsTrue}
 use Rattle.hp_model.specs.declared.structure.ConstValue.{ConstValue}
 use Rattle.hp_model.specs.Value.{Functions, constant, value, atom_is_true}
 use Rattle.hp_linear.specs.declared.form.Form.{Form}
-use Rattle.hp_linear.specs.declared.atoms.Side.{Side}
+use Rattle.hp_norm.specs.declared.atoms.Side.{Side}
+use Rattle.hp_norm.specs.Values.{asked, entry_name, entry_value}
 use Rattle.hp_linear.specs.Steps.{gcd}
 use Rattle.hp_linear.specs.Forms.{lin_of}
 use Rattle.hp_linear.specs.Literals.{num_literals}
-use Rattle.hp_linear.specs.Values.{asked, entry_name, entry_value, form_value}
+use Rattle.hp_linear.specs.Values.{form_value}
 
 -- a term has the value of its form, whatever values the constants have
 abbrev pub TermsHaveFormValues : Type 0

@@ -9,9 +9,8 @@ use Rattle.hp_base.specs.declared.literal.Lit.{Lit}
 use Rattle.hp_base.specs.declared.literal.Lit.TheVariants.{Num}
 use Rattle.hp_linear.specs.declared.form.Form.{Form}
 use Rattle.hp_linear.specs.declared.wholes.Row.{Row}
-use Rattle.hp_linear.specs.declared.atoms.Side.{Side}
-use Rattle.hp_linear.specs.declared.atoms.Side.TheVariants.{Guard, Head}
-use Rattle.hp_norm.specs.Literals.{negated}
+use Rattle.hp_norm.specs.declared.atoms.Side.{Side}
+use Rattle.hp_norm.specs.Literals.{taken}
 use Rattle.hp_linear.specs.Steps.{Refusable, ◌>>=◌}
 use Rattle.hp_linear.specs.Forms.{lin_of, minus_form}
 use Rattle.hp_linear.specs.Wholes.{row_of}
@@ -38,11 +37,6 @@ literals Eq left right = one_literal rel.Eq left right
 literals Ne left right = apart_literals left right
 literals Ge left right = one_literal rel.Le right left
 literals Gt left right = one_literal rel.Lt right left
-
--- an atom of the guard stands for its negation
-abbrev pub taken : Side → Cmp → Cmp
-taken Guard cmp = negated cmp
-taken Head cmp = cmp
 
 -- the literals of an atom over these constants
 abbrev pub num_literals : List (List ℕ) → Side → Atom → Refusable (List Lit)

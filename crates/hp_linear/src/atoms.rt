@@ -1,8 +1,7 @@
 //! The literals of atoms: each compares a sum of whole copies of constants with a whole number.
 
 ghost use Rattle.std.specs.Prelude.{◌≡◌, ◌≤◌, ◌∷◌, [], Ok, length};
-ghost use Rattle.hp_norm.specs.Literals.{negated};
-ghost use Rattle.hp_linear.specs.Literals.{apart_literals, compared, literals, num_literals, one_literal, taken};
+ghost use Rattle.hp_linear.specs.Literals.{apart_literals, compared, literals, num_literals, one_literal};
 ghost use Rattle.hp_linear.specs.Answers.{Answers, Pushed, Written, step_of};
 
 use crate::collect::collect;
@@ -10,34 +9,18 @@ use crate::form::{Form, Refusal, minus};
 use crate::wholes::row_of;
 use hp_ast::{Atom, Cmp};
 use hp_base::{Lit, NumLit, Rel};
-use hp_norm::NameIndex;
+use hp_norm::{NameIndex, Side, Step, taken};
 use hp_num::List;
 use std::alloc::Global;
-
-/// The part of a clause that an atom stands in. An atom of the guard stands for its negation.
-#[derive(Clone, Copy)]
-pub enum Side {
-    Guard,
-    Head,
-}
-
-/// Whether literals were added; an atom that isn't of sort num over these constants; a number of the computation
-/// that has a magnitude above 2^127 - 1; or want of memory.
-#[derive(Clone, Copy)]
-pub enum Step {
-    Done,
-    Other,
-    Wide,
-    Memory,
-}
 
 /// Adds the literals of an atom over these constants behind those that are there: for `l <= r` in the head the literal
 /// `l <= r`, in the guard `r < l`; for `l < r` the literals `l < r` and `r <= l`; `>=` and `>` exchange the sides; for
 /// `l = r` in the head `l = r`, in the guard `l < r` and then `r < l`; for `l != r` the other way round.
 ///
 /// A literal's parts are in the order of names, without a common divisor of all its numbers. Of `Other` and `Wide` the
-/// answer is what is met first, left before right and inner before outer. At both nothing is added; at `Memory` the
-/// first of two literals may be there.
+/// answer is what is met first, left before right and inner before outer: `Other` where the atom isn't of sort num over
+/// these constants, `Wide` at a number of the computation that has a magnitude above 2^127 - 1. At both nothing is added;
+/// at `Memory` the first of two literals may be there.
 pub fn literals(
     alloc: Global,
     index: &NameIndex,
@@ -65,29 +48,6 @@ fn refused(refusal: Refusal) -> Step
         Refusal::Other => Step::Other,
         Refusal::Wide => Step::Wide,
         Refusal::Memory => Step::Memory,
-    }
-}
-
-/// The relation that holds where this one does not.
-fn negated(cmp: Cmp) -> Cmp
-    ensures { result ≡ negated cmp }
-{
-    match cmp {
-        Cmp::Le => Cmp::Gt,
-        Cmp::Lt => Cmp::Ge,
-        Cmp::Eq => Cmp::Ne,
-        Cmp::Ne => Cmp::Eq,
-        Cmp::Ge => Cmp::Lt,
-        Cmp::Gt => Cmp::Le,
-    }
-}
-
-fn taken(side: Side, cmp: Cmp) -> Cmp
-    ensures { result ≡ taken side cmp }
-{
-    match side {
-        Side::Guard => negated(cmp),
-        Side::Head => cmp,
     }
 }
 

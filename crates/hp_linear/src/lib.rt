@@ -11,7 +11,7 @@ mod numbers;
 mod summands;
 mod wholes;
 
-pub use atoms::{Side, Step, literals};
+pub use atoms::literals;
 pub use laws::{divisors_are_greatest, literals_are_true_with_atoms, terms_have_form_values};
 
 #[cfg(test)]

@@ -2,10 +2,10 @@
 
 ghost use Rattle.std.specs.Prelude.{◌≡◌, ◌≤◌, ◌<◌, IfOk, length};
 
-use crate::{Side, Step, literals};
+use crate::literals;
 use hp_ast::{Atom, Cmp, Term};
 use hp_base::{Lit, Part, Rel};
-use hp_norm::NameIndex;
+use hp_norm::{NameIndex, Side, Step};
 use hp_num::{Frac, List, Text};
 use sqlite_items::Boxed;
 use std::alloc::{AllocError, Global};

@@ -5,9 +5,4 @@ pub mod Bounds
 pub mod Sides
 pub mod Semantics
 pub mod Truth
-pub mod Clauses
-pub mod Models
-pub mod Rows
 pub mod Steps
-pub mod Declared
-pub mod Found

@@ -17,16 +17,11 @@ use Rattle.hp_norm.specs.declared.collect.Shape.{Shape}
 use Rattle.hp_norm.specs.declared.collect.Shape.TheVariants.{Number, Sum, Other}
 use Rattle.hp_norm.specs.Numbered.{number}
 use Rattle.hp_norm.specs.Forms.{above, form_of, shape_form, shape_of, shape_step, shifted, plus_shape, minus_shape, neg_shape, number_shape, named_shape}
+use Rattle.hp_norm.specs.Values.{entry_name, entry_value}
 use Rattle.hp_norm.proofs.Texts.{apart_back, same_text, text_same}
 use Rattle.hp_norm.proofs.Numbers.{neg-whole, whole-+, whole-of}
 
 -- ---- a constant by its place
-abbrev pub entry_name : ConstValue → List ℕ
-entry_name c = c.name
-
-abbrev pub entry_value : ConstValue → ℚ
-entry_value c = c.value
-
 constant_at : (es : List ConstValue) (name : List ℕ) (i : ℕ) (d : List ℕ) → i < length es → bytes_eq name (get_or (map entry_name es) i d) ≡ true
     → ((k : ℕ) → k < i → bytes_eq name (get_or (map entry_name es) k d) ≡ false) → constant es name ≡ get_or (map entry_value es) i (whole (pos 0))
 constant_at [] name i d h e before = absurd (omega arith)

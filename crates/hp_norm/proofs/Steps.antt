@@ -1,28 +1,18 @@
--- Literals, lines and names that are added one by one.
-use Rattle.std.proofs.Common.{◌≡◌, ◌<◌, ◌≤◌, ℕ, zero, suc, ◌+◌, ◌^◌, List, [], ◌∷◌, ◌++◌, ◌||◌, true, length, get_or, take, drop, Option, Some, None, refl, sym, ap, subst, ◌∙◌, append_assoc, append-nil, arith, MatchOption}
-use Rattle.std.specs.List.{All, flat_map}
-use Rattle.std.proofs.lemmas.List.{drop_more, take_more}
-use Rattle.std.proofs.lemmas.List.Elements.{All-nil, All-cons, All-head, All-tail, All-append}
-use Rattle.std.proofs.lemmas.Grind.{flat_map-append}
+-- Literals of an atom that are added one by one.
+use Rattle.std.proofs.Common.{◌≡◌, ◌≤◌, ℕ, ◌^◌, List, [], ◌∷◌, ◌++◌, ◌||◌, true, Option, Some, None, sym, ap, subst, ◌∙◌, append_assoc, MatchOption}
+use Rattle.std.proofs.lemmas.List.Elements.{All-cons, All-head, All-tail}
 use Rattle.hp_base.specs.declared.literal.Lit.{Lit}
-use Rattle.hp_base.specs.declared.line.Line.{Line}
 use Rattle.hp_ast.specs.declared.term.Term.{Term}
 use Rattle.hp_ast.specs.declared.problem.Atom.{Atom}
-use Rattle.hp_ast.specs.declared.problem.Clause.{Clause}
 use Rattle.hp_ast.specs.declared.problem.Cmp.{Cmp}
 use Rattle.hp_norm.specs.declared.collect.Form.{Form}
 use Rattle.hp_norm.specs.declared.collect.Shape.{Shape}
 use Rattle.hp_norm.specs.declared.atoms.Side.{Side}
-use Rattle.hp_norm.specs.declared.atoms.Side.TheVariants.{Guard, Head}
-use Rattle.hp_norm.specs.declared.grounding.LineRead.TheVariants.{Read}
-use Rattle.hp_base.specs.declared.line.Origin.TheVariants.{Ground as FromClause}
-use Rattle.hp_ast.specs.declared.problem.Var.{Var}
 use Rattle.hp_norm.specs.declared.atoms.Step.{Step}
 use Rattle.hp_norm.specs.declared.atoms.Step.TheVariants.{Done, Other, Wide, Memory}
 use Rattle.hp_norm.specs.Forms.{IsSmallShape, form_of, shape_form, shape_of, weight}
-use Rattle.hp_norm.specs.Literals.{HasSmallBound, IsIndexAtom, atom_literals, clause_literals, is_named, literals, taken}
-use Rattle.hp_norm.specs.Ground.{IsIndexClause, line_of, lines_from}
-use Rattle.hp_norm.specs.Answers.{AtomPushed, AtomsPushed, HasSmallBounds, LineFound, Pushed, SidesPushed}
+use Rattle.hp_norm.specs.Literals.{HasSmallBound, is_named, literals, taken}
+use Rattle.hp_norm.specs.Answers.{AtomPushed, Pushed, SidesPushed}
 use Rattle.hp_norm.proofs.Shapes.{too_heavy}
 use Rattle.hp_norm.proofs.Bounds.{light_atom}
 
@@ -66,79 +56,3 @@ atom_pushed names side atom cmp l r old new step e g k h = by step (subst (λ (s
     by Other h = h
     by Wide h = λ light. h (light_atom names side atom light)
     by Memory h = tt
-
--- ---- the literals of the first atoms
-pub record AtomsSoFar (names : List (List ℕ)) (side : Side) (atoms : List Atom) (i : ℕ) (old lits : List Lit) : Type 0 where
-  pub added : lits ≡ old ++ flat_map (atom_literals names side) (take i atoms)
-  pub small : All HasSmallBound (flat_map (atom_literals names side) (take i atoms))
-  pub index : All (IsIndexAtom names) (take i atoms)
-
-pub atom_more : (names : List (List ℕ)) (side : Side) (atoms : List Atom) (i : ℕ) (old lits new : List Lit) (d : Atom) → i < length atoms
-    → AtomPushed names side (get_or atoms i d) lits new Done → AtomsSoFar names side atoms i old lits → AtomsSoFar names side atoms (i + 1) old new
-atom_more names side atoms i old lits new d h is so_far =
-    let a = get_or atoms i d in
-    let f = atom_literals names side in
-    let more = take_more atoms i d h in
-    let last : flat_map f (a ∷ []) ≡ f a = append-nil (f a) in
-    let split : flat_map f (take (i + 1) atoms) ≡ flat_map f (take i atoms) ++ f a = ap (flat_map f) more ∙ flat_map-append f (take i atoms) (a ∷ []) ∙ ap (λ (xs : List Lit). flat_map f (take i atoms) ++ xs) last in
-    record {
-      added = is.0 ∙ ap (λ (xs : List Lit). xs ++ f a) so_far.added ∙ append_assoc old (flat_map f (take i atoms)) (f a) ∙ ap (λ (xs : List Lit). old ++ xs) (sym split);
-      small = subst (All HasSmallBound) (sym split) (All-append HasSmallBound (flat_map f (take i atoms)) (f a) so_far.small is.1);
-      index = subst (All (IsIndexAtom names)) (sym more)
-          (All-append (IsIndexAtom names) (take i atoms) (a ∷ []) so_far.index (All-cons (IsIndexAtom names) a [] is.2 (All-nil (IsIndexAtom names))));
-    }
-
-pub take_end : {X : Type 0} (xs : List X) (i : ℕ) → length xs ≤ i → take i xs ≡ xs
-take_end [] zero h = refl
-take_end [] (suc i) h = refl
-take_end (x ∷ xs) zero h = absurd (omega arith)
-take_end (x ∷ xs) (suc i) h = ap (λ (ys : List _). x ∷ ys) (take_end xs i (omega arith))
-
--- ---- a line
-no_vars : (vs : List Var) → length vs ≡ 0 → vs ≡ []
-no_vars [] e = refl
-no_vars (v ∷ vs) e = absurd (omega arith)
-
-pub line_found : (names : List (List ℕ)) (number : ℕ) (c : Clause) (first second : List Lit) → length c.vars ≡ 0 → AtomsPushed names Guard c.guard [] first Done → AtomsPushed names Head c.head first second Done
-    → LineFound names number c (Read (record { lits = second; origin = FromClause number }))
-line_found names number c first second e g h =
-    let guard = flat_map (atom_literals names Guard) c.guard in
-    let head = flat_map (atom_literals names Head) c.head in
-    let lits : second ≡ clause_literals names c = h.0 ∙ ap (λ (xs : List Lit). xs ++ head) g.0 in (
-      (λ i. record { lits = lits i; origin = FromClause number }),
-      subst (All HasSmallBound) (sym lits) (All-append HasSmallBound guard head g.1 h.1),
-      record { vars = no_vars c.vars e; guard = g.2; head = h.2 },
-    )
-
--- ---- the lines of the first clauses
-pub record LinesSoFar (names : List (List ℕ)) (clauses : List Clause) (i : ℕ) (lines : List Line) : Type 0 where
-  pub rest : lines_from names 1 clauses ≡ lines ++ lines_from names (i + 1) (drop i clauses)
-  pub small : All HasSmallBounds lines
-  pub index : All (IsIndexClause names) (take i clauses)
-
-pub line_more : (names : List (List ℕ)) (clauses : List Clause) (i : ℕ) (lines : List Line) (d : Clause) (l : Line) → i < length clauses
-    → (l ≡ line_of names (i + 1) (get_or clauses i d)) × HasSmallBounds l × IsIndexClause names (get_or clauses i d)
-    → LinesSoFar names clauses i lines → LinesSoFar names clauses (i + 1) (lines ++ l ∷ [])
-line_more names clauses i lines d l h is so_far = record {
-  rest = so_far.rest ∙ ap (λ (cs : List Clause). lines ++ lines_from names (i + 1) cs) (drop_more clauses i d h)
-      ∙ ap (λ (x : Line). lines ++ x ∷ lines_from names (i + 1 + 1) (drop (i + 1) clauses)) (sym is.0)
-      ∙ sym (append_assoc lines (l ∷ []) (lines_from names (i + 1 + 1) (drop (i + 1) clauses)));
-  small = All-append HasSmallBounds lines (l ∷ []) so_far.small (All-cons HasSmallBounds l [] is.1 (All-nil HasSmallBounds));
-  index = subst (All (IsIndexClause names)) (sym (take_more clauses i d h))
-      (All-append (IsIndexClause names) (take i clauses) (get_or clauses i d ∷ []) so_far.index
-      (All-cons (IsIndexClause names) (get_or clauses i d) [] is.2 (All-nil (IsIndexClause names))));
-}
-
-drop_end : {X : Type 0} (xs : List X) (i : ℕ) → length xs ≤ i → drop i xs ≡ []
-drop_end [] zero h = refl
-drop_end [] (suc i) h = refl
-drop_end (x ∷ xs) zero h = absurd (omega arith)
-drop_end (x ∷ xs) (suc i) h = drop_end xs i (omega arith)
-
-pub all_lines : (names : List (List ℕ)) (clauses : List Clause) (i : ℕ) (lines : List Line) → length clauses ≤ i → LinesSoFar names clauses i lines
-    → (lines ≡ lines_from names 1 clauses) × All HasSmallBounds lines × All (IsIndexClause names) clauses
-all_lines names clauses i lines h so_far = (
-  sym (so_far.rest ∙ ap (λ (cs : List Clause). lines ++ lines_from names (i + 1) cs) (drop_end clauses i h) ∙ append-nil lines),
-  so_far.small,
-  subst (All (IsIndexClause names)) (take_end clauses i h) so_far.index,
-)

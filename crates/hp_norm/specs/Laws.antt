@@ -1,34 +1,25 @@
--- What ties the ground lines of an index problem to the structures of the problem.
-use Rattle.std.specs.Prelude.{ℕ, List, [], ◌∷◌}
-use Rattle.std.specs.List.{All}
-use Rattle.hp_ast.specs.declared.problem.Problem.{Problem}
-use Rattle.hp_base.specs.declared.names.Ground.{Ground}
-use Rattle.hp_base.specs.Names.{sorts}
-use Rattle.hp_base.specs.Sorts.{AreOfSorts}
-use Rattle.hp_base.specs.Truth.{Values, LineIsTrue}
+-- What ties the literals of an index atom to its truth.
+use Rattle.std.specs.Prelude.{◌≡◌, ◌↔◌, List, map, true, Option, Some, None}
+use Rattle.hp_math.specs.Rational.{is_whole}
+use Rattle.hp_ast.specs.declared.problem.Atom.{Atom}
+use Rattle.hp_base.specs.Truth.{Values, LineIsTrue, optional_value}
 use Rattle.hp_model.specs.declared.structure.ConstValue.{ConstValue}
-use Rattle.hp_model.specs.declared.structure.Structure.{Structure}
-use Rattle.hp_model.specs.Satisfies.{Satisfies}
-use Rattle.hp_norm.specs.Ground.{IsGroundOf, declared}
+use Rattle.hp_model.specs.Value.{Functions, constant, atom_is_true}
+use Rattle.hp_norm.specs.declared.collect.Form.{Form}
+use Rattle.hp_norm.specs.declared.atoms.Side.{Side}
+use Rattle.hp_norm.specs.Forms.{form_of}
+use Rattle.hp_norm.specs.Literals.{IsIndexAtom, atom_literals}
+use Rattle.hp_norm.specs.Values.{asked, entry_name, entry_value}
 
--- values of the names' sorts at which every line is true
-pub record AreTrueLines (g : Ground) (v : Values) : Type 0 where
-  pub sorted : AreOfSorts (sorts g.names) v
-  pub lines : All (λ line. LineIsTrue v line.lits) g.lines
+-- where the form has a name, its value is whole
+abbrev pub IsWholeSide : Values → Option Form → Type 0
+IsWholeSide v None = Unit {0}
+IsWholeSide v (Some form) = is_whole (optional_value v form.base) ≡ true
 
--- every structure that satisfies the problem gives such values
-abbrev pub StructuresGiveValues : Type 0
-StructuresGiveValues = (p : Problem) (g : Ground) → IsGroundOf p g → (structure : Structure) → Satisfies structure p → (v : Values) × AreTrueLines g v
-
-abbrev pub const_values : List (List ℕ) → Values → List ConstValue
-const_values [] v = []
-const_values (name ∷ names) [] = []
-const_values (name ∷ names) (x ∷ xs) = record { name = name; value = x } ∷ const_values names xs
-
--- one pointer, and for each constant its value
-abbrev pub structure_of : List (List ℕ) → Values → Structure
-structure_of names v = record { universe = 1; consts = const_values names v; tables = [] }
-
--- such values give a structure that satisfies the problem
-abbrev pub ValuesGiveAStructure : Type 0
-ValuesGiveAStructure = (p : Problem) (g : Ground) → IsGroundOf p g → (v : Values) → AreTrueLines g v → Satisfies (structure_of (declared p) v) p
+-- one of the literals is true exactly where the atom is as its side asks, where the constants in it have whole values
+abbrev pub LiteralsAreTrueWithAtoms : Type 0
+LiteralsAreTrueWithAtoms = (consts : List ConstValue) (functions : Functions) (side : Side) (atom : Atom)
+    → IsIndexAtom (map entry_name consts) atom
+    → IsWholeSide (map entry_value consts) (form_of (map entry_name consts) atom.left)
+    → IsWholeSide (map entry_value consts) (form_of (map entry_name consts) atom.right)
+    → LineIsTrue (map entry_value consts) (atom_literals (map entry_name consts) side atom) ↔ (asked side (atom_is_true (constant consts) functions atom) ≡ true)

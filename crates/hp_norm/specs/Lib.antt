@@ -1,6 +1,6 @@
 pub mod Numbered
 pub mod Forms
 pub mod Literals
-pub mod Ground
-pub mod Answers
+pub mod Values
 pub mod Laws
+pub mod Answers

@@ -1,6 +1,6 @@
--- The literals of a clause: what each atom over index terms says about the difference of two constants.
-use Rattle.std.specs.Prelude.{◌≡◌, ℕ, ◌+◌, ◌^◌, ◌<◌, ◌==◌, Bool, true, false, ◌||◌, if◌then◌else◌, List, [], ◌∷◌, ◌++◌, ℤ, pos, ◌-ℤ◌, Option, Some, None}
-use Rattle.std.specs.List.{flat_map}
+-- The literals of an atom over index terms: what it says about the difference of two constants.
+use Rattle.std.specs.Prelude.{◌≡◌, ℕ, ◌+◌, ◌^◌, ◌<◌, ◌==◌, Bool, true, false, ◌||◌, if◌then◌else◌, List, [], ◌∷◌, ℤ, pos, ◌-ℤ◌, Option, Some, None}
+use Rattle.std.specs.List.{All}
 use Rattle.hp_base.specs.declared.literal.Name.{Name}
 use Rattle.hp_base.specs.declared.literal.Rel.{Rel}
 use Rattle.hp_base.specs.declared.literal.Rel.TheVariants as rel
@@ -11,6 +11,7 @@ use Rattle.hp_ast.specs.declared.problem.Cmp.{Cmp}
 use Rattle.hp_ast.specs.declared.problem.Cmp.TheVariants.{Le, Lt, Eq, Ne, Ge, Gt}
 use Rattle.hp_ast.specs.declared.problem.Atom.{Atom}
 use Rattle.hp_ast.specs.declared.problem.Clause.{Clause}
+use Rattle.hp_ast.specs.declared.problem.Problem.{Problem}
 use Rattle.hp_norm.specs.declared.collect.Form.{Form}
 use Rattle.hp_norm.specs.declared.atoms.Side.{Side}
 use Rattle.hp_norm.specs.declared.atoms.Side.TheVariants.{Guard, Head}
@@ -74,11 +75,6 @@ sides_literals cmp None right = []
 abbrev pub atom_literals : List (List ℕ) → Side → Atom → List Lit
 atom_literals names side atom = sides_literals (taken side atom.cmp) (form_of names atom.left) (form_of names atom.right)
 
--- ---- the literals of a clause
--- those of the guard, and then those of the head, each in order
-abbrev pub clause_literals : List (List ℕ) → Clause → List Lit
-clause_literals names clause = flat_map (atom_literals names Guard) clause.guard ++ flat_map (atom_literals names Head) clause.head
-
 -- ---- atoms of sort idx
 abbrev pub is_named : Option Name → Bool
 is_named None = false
@@ -90,8 +86,11 @@ are_index_sides (Some left) (Some right) = is_named left.base || is_named right.
 are_index_sides (Some left) None = false
 are_index_sides None right = false
 
+abbrev pub is_index_atom : List (List ℕ) → Atom → Bool
+is_index_atom names atom = are_index_sides (form_of names atom.left) (form_of names atom.right)
+
 abbrev pub IsIndexAtom : List (List ℕ) → Atom → Type 0
-IsIndexAtom names atom = are_index_sides (form_of names atom.left) (form_of names atom.right) ≡ true
+IsIndexAtom names atom = is_index_atom names atom ≡ true
 
 -- ---- bounds
 abbrev pub HasSmallBound : Lit → Type 0
@@ -102,3 +101,11 @@ HasSmallBound (Ptr l) = ⊥
 -- the numbers of both sides, added together by magnitude, stay below 10^25
 abbrev pub IsLightAtom : Atom → Type 0
 IsLightAtom atom = (weight atom.left + weight atom.right) < 10 ^ 25
+
+pub record IsLightClause (clause : Clause) : Type 0 where
+  pub guard : All IsLightAtom clause.guard
+  pub head : All IsLightAtom clause.head
+
+-- no atom has numbers that come near to 10^25 together
+abbrev pub IsLight : Problem → Type 0
+IsLight p = All IsLightClause p.clauses

@@ -4,8 +4,8 @@ ghost use Rattle.std.specs.Prelude.{◌≡◌, ◌<◌, ◌^◌, ◌-ℤ◌, ◌
 ghost use Rattle.hp_base.specs.declared.literal.Lit.TheVariants.{Idx};
 ghost use Rattle.hp_ast.specs.declared.problem.Cmp.TheVariants.{Ne};
 ghost use Rattle.hp_norm.specs.Forms.{IsSmall, IsSmallShape, shape_form};
-ghost use Rattle.hp_norm.specs.Literals.{bound_of, cancel, compared, is_named, literals, negated, taken};
-ghost use Rattle.hp_norm.specs.Answers.{AtomPushed, AtomsPushed, Pushed, SidesPushed};
+ghost use Rattle.hp_norm.specs.Literals.{IsLightAtom, are_index_sides, bound_of, cancel, compared, is_index_atom, is_named, literals, negated, taken};
+ghost use Rattle.hp_norm.specs.Answers.{AtomPushed, Pushed, SidesPushed};
 
 use crate::collect::{Form, Shape, collect, small};
 use hp_ast::{Atom, Cmp};
@@ -20,7 +20,8 @@ pub enum Side {
     Head,
 }
 
-/// Whether literals were added; an atom that isn't of sort idx; a number that is too large; or want of memory.
+/// Whether literals were added; an atom that isn't of the sort that was asked for; a number that is too large; or want
+/// of memory.
 #[derive(Clone, Copy)]
 pub enum Step {
     Done,
@@ -29,8 +30,57 @@ pub enum Step {
     Memory,
 }
 
+/// Adds the literals of an atom behind those that are there: for `l <= r` in the head the bound of `l - r`, in the guard
+/// that of `r - l` less one; `>=` and `>` exchange the sides; for `l = r` in the head an exact bound, in the guard the two
+/// literals of `l < r` and `r < l`; for `l != r` the other way round. A name on both sides cancels.
+///
+/// Every bound is at most 10^25 in magnitude. `Other` comes only where the atom isn't of sort idx over these constants:
+/// both sides are index terms, and one of them has a name. An index term is a whole number or the negation of one, a
+/// constant, the sum of an index term and a whole number in either order, or an index term without a whole number.
+/// `Wide` comes only where the numbers of the atom, added together by magnitude, come to 10^25 or more.
+pub fn literals(index: &NameIndex, side: Side, atom: &Atom, lits: &mut List<Lit>) -> Step
+    requires { length index.now < 2 ^ 28 }
+    ensures { AtomPushed index.now side atom.now lits.old lits.new result }
+{
+    match collect(index, &atom.left) {
+        None => Step::Wide,
+        Some(left) => match collect(index, &atom.right) {
+            None => Step::Wide,
+            Some(right) => push_sides(lits, taken(side, atom.cmp), left, right),
+        },
+    }
+}
+
+/// Whether an atom whose numbers are small together is of sort idx over these constants.
+pub fn is_index_atom(index: &NameIndex, atom: &Atom) -> bool
+    requires few { length index.now < 2 ^ 28 }
+    requires light { IsLightAtom atom.now }
+    ensures { result ≡ is_index_atom index.now atom.now }
+{
+    match collect(index, &atom.left) {
+        None => false,
+        Some(left) => match collect(index, &atom.right) {
+            None => false,
+            Some(right) => are_index_sides(left.form(), right.form()),
+        },
+    }
+}
+
+/// Whether two terms are index terms of which one has a name.
+fn are_index_sides(left: Option<Form>, right: Option<Form>) -> bool
+    ensures { result ≡ are_index_sides left right }
+{
+    match left {
+        None => false,
+        Some(left) => match right {
+            None => false,
+            Some(right) => are_named(left.base, right.base),
+        },
+    }
+}
+
 /// The relation that holds where this one does not.
-fn negated(cmp: Cmp) -> Cmp
+pub fn negated(cmp: Cmp) -> Cmp
     ensures { result ≡ negated cmp }
 {
     match cmp {
@@ -43,7 +93,8 @@ fn negated(cmp: Cmp) -> Cmp
     }
 }
 
-fn taken(side: Side, cmp: Cmp) -> Cmp
+/// The relation that a side asks of the two terms of an atom.
+pub fn taken(side: Side, cmp: Cmp) -> Cmp
     ensures { result ≡ taken side cmp }
 {
     match side {
@@ -166,34 +217,4 @@ fn push_sides(lits: &mut List<Lit>, cmp: Cmp, left: Shape, right: Shape) -> Step
             }
         },
     }
-}
-
-/// Adds the literals of an atom.
-fn push_atom(index: &NameIndex, lits: &mut List<Lit>, side: Side, atom: &Atom) -> Step
-    requires { length index.now < 2 ^ 28 }
-    ensures { AtomPushed index.now side atom.now lits.old lits.new result }
-{
-    match collect(index, &atom.left) {
-        None => Step::Wide,
-        Some(left) => match collect(index, &atom.right) {
-            None => Step::Wide,
-            Some(right) => push_sides(lits, taken(side, atom.cmp), left, right),
-        },
-    }
-}
-
-/// Adds the literals of atoms in their order.
-pub fn push_atoms(index: &NameIndex, lits: &mut List<Lit>, side: Side, atoms: &[Atom]) -> Step
-    requires { length index.now < 2 ^ 28 }
-    ensures { AtomsPushed index.now side atoms.now lits.old lits.new result }
-{
-    for atom in atoms {
-        match push_atom(index, lits, side, atom) {
-            Step::Done => {}
-            Step::Other => return Step::Other,
-            Step::Wide => return Step::Wide,
-            Step::Memory => return Step::Memory,
-        }
-    }
-    Step::Done
 }

@@ -1,13 +1,9 @@
-//! What ties the ground lines of an index problem to the structures of the problem.
+//! What ties the literals of an index atom to its truth.
 
-ghost use Rattle.hp_norm.specs.Laws.{StructuresGiveValues, ValuesGiveAStructure};
+ghost use Rattle.hp_norm.specs.Laws.{LiteralsAreTrueWithAtoms};
 
-/// Every structure that satisfies an index problem gives values at which its ground lines are all true.
-pub fn structures_give_values()
-    ensures { StructuresGiveValues }
-{}
-
-/// Values at which the ground lines of an index problem are all true give a structure that satisfies the problem.
-pub fn values_give_a_structure()
-    ensures { ValuesGiveAStructure }
+/// At values of the constants that are whole where the atom names them, one of its literals is true exactly where the
+/// atom is true, in the head, or false, in the guard.
+pub fn literals_are_true_with_atoms()
+    ensures { LiteralsAreTrueWithAtoms }
 {}

@@ -1,15 +1,14 @@
-//! Problems over index constants without variables become ground lines of bounds on differences.
-//! What the lines say is tied to the structures of the problem by two laws.
+//! The normal form of atoms over index constants: terms become a constant plus a whole number, and atoms become bounds
+//! on differences. What the literals say is tied to the truth of atoms by a law.
 #![tactic(auto)]
 
 mod atoms;
 mod collect;
-mod grounding;
 mod laws;
 
-pub use grounding::{GroundRead, ground};
+pub use atoms::{Side, Step, is_index_atom, literals, negated, taken};
 pub use hp_names::NameIndex;
-pub use laws::{structures_give_values, values_give_a_structure};
+pub use laws::literals_are_true_with_atoms;
 
 #[cfg(test)]
 mod tests;

@@ -1,10 +1,10 @@
-//! What `ground` answers with ample memory to clauses whose literals are known by hand.
+//! What `literals` adds with ample memory for atoms whose literals are known by hand.
 
-ghost use Rattle.std.specs.Prelude.{◌≡◌, ◌≤◌, ◌<◌, length, true};
+ghost use Rattle.std.specs.Prelude.{◌≡◌, ◌<◌, ◌^◌, IfOk, length, true};
 
-use crate::{GroundRead, ground};
-use hp_ast::{Atom, Clause, Cmp, Decl, Problem, Sort, Term};
-use hp_base::{Ground, IdxLit, Lit, Name, Origin};
+use crate::{NameIndex, Side, Step, literals};
+use hp_ast::{Atom, Cmp, Term};
+use hp_base::{IdxLit, Lit, Name};
 use hp_num::{Frac, List, Text};
 use sqlite_items::Boxed;
 use std::alloc::{AllocError, Global};
@@ -17,7 +17,6 @@ enum Answer {
     Other,
     Wide,
     NoMemory,
-    Unasked,
 }
 
 /// The term `plus + name - minus`; numbers that are 0 are left out, and so is the name where it is 0.
@@ -64,48 +63,22 @@ fn term(alloc: Global, part: Part) -> Result<Term, AllocError> {
     ))
 }
 
-fn atoms(alloc: Global, spelled: &[Spelled]) -> Result<List<Atom>, AllocError> {
-    let mut atoms = List::new(alloc);
-    for atom in spelled {
-        atoms.push(Atom {
-            left: term(alloc, atom.left)?,
-            cmp: atom.cmp,
-            right: term(alloc, atom.right)?,
-        })?;
-    }
-    Ok(atoms)
-}
-
-fn push_clause(
-    alloc: Global,
-    p: &mut Problem,
-    guard: &[Spelled],
-    head: &[Spelled],
-) -> Result<(), AllocError> {
-    p.clauses.push(Clause {
-        query: false,
-        vars: List::new(alloc),
-        guard: atoms(alloc, guard)?,
-        head: atoms(alloc, head)?,
+fn atom(alloc: Global, spelled: Spelled) -> Result<Atom, AllocError> {
+    Ok(Atom {
+        left: term(alloc, spelled.left)?,
+        cmp: spelled.cmp,
+        right: term(alloc, spelled.right)?,
     })
 }
 
-/// The constants `i` and `j`, a clause without atoms, and then a clause with these.
-fn problem(alloc: Global, guard: &[Spelled], head: &[Spelled]) -> Result<Problem, AllocError> {
-    let mut p = Problem {
-        profile: 1,
-        decls: List::new(alloc),
-        clauses: List::new(alloc),
-    };
-    for letter in [b'i', b'j'] {
-        p.decls.push(Decl::Const {
-            name: Text::from_slice(alloc, &[letter])?,
-            sort: Sort::Idx,
-        })?;
-    }
-    push_clause(alloc, &mut p, &[], &[])?;
-    push_clause(alloc, &mut p, guard, head)?;
-    Ok(p)
+/// The constants `i` and `j`.
+fn index(alloc: Global) -> Result<NameIndex, AllocError>
+    ensures { IfOk result (λ index. length index < 2 ^ 28) }
+{
+    let mut index = NameIndex::new(alloc);
+    index.insert(alloc, &[b'i'])?;
+    index.insert(alloc, &[b'j'])?;
+    Ok(index)
 }
 
 fn is_row(lit: &Lit, want: &IdxLit) -> bool {
@@ -127,51 +100,27 @@ fn are_rows(lits: &List<Lit>, want: &[IdxLit]) -> bool {
     true
 }
 
-fn is_clause(origin: &Origin, number: u32) -> bool {
-    match origin {
-        Origin::Ground { clause } => *clause == number,
-        Origin::At { .. } | Origin::Equal { .. } | Origin::SumOf { .. } => false,
-    }
-}
-
-fn is_wanted(g: &Ground, want: &[IdxLit]) -> bool {
-    if g.names.count() != 2 || g.lines.len() != 2 {
-        return false;
-    }
-    let (first, second) = (g.lines.get(0), g.lines.get(1));
-    is_clause(&first.origin, 1)
-        && first.lits.len() == 0
-        && is_clause(&second.origin, 2)
-        && are_rows(&second.lits, want)
-}
-
-fn answered(alloc: Global, p: &Problem, want: &[IdxLit]) -> Answer {
-    if p.decls.len() >= 1 << 28 || p.clauses.len() > 2000 {
-        return Answer::Unasked;
-    }
-    match ground(alloc, p) {
-        GroundRead::Read(g) => {
-            if is_wanted(&g, want) {
+fn seen(
+    alloc: Global,
+    side: Side,
+    spelled: Spelled,
+    want: &[IdxLit],
+) -> Result<Answer, AllocError> {
+    let index = index(alloc)?;
+    let atom = atom(alloc, spelled)?;
+    let mut lits = List::new(alloc);
+    Ok(match literals(&index, side, &atom, &mut lits) {
+        Step::Done => {
+            if are_rows(&lits, want) {
                 Answer::Same
             } else {
                 Answer::Differs
             }
         }
-        GroundRead::Other => Answer::Other,
-        GroundRead::ManyNames => Answer::Differs,
-        GroundRead::Wide => Answer::Wide,
-        GroundRead::Memory => Answer::NoMemory,
-    }
-}
-
-fn seen(
-    alloc: Global,
-    guard: &[Spelled],
-    head: &[Spelled],
-    want: &[IdxLit],
-) -> Result<Answer, AllocError> {
-    let p = problem(alloc, guard, head)?;
-    Ok(answered(alloc, &p, want))
+        Step::Other => Answer::Other,
+        Step::Wide => Answer::Wide,
+        Step::Memory => Answer::NoMemory,
+    })
 }
 
 fn relates(left: Part, cmp: Cmp, right: Part) -> Spelled {
@@ -246,36 +195,34 @@ fn atoms_of_the_head(rt: HostRuntime) {
         (relates(THREE, Cmp::Gt, J), &[at_most(J_NAME, None, 2)]),
     ];
     for (atom, want) in cases {
-        assert_eq!(rt; seen(rt.alloc(), &[], &[atom], want), Ok(Answer::Same));
+        assert_eq!(rt; seen(rt.alloc(), Side::Head, atom, want), Ok(Answer::Same));
     }
 }
 
 #[test]
 fn atoms_of_the_guard(rt: HostRuntime) {
-    let head = relates(I, Cmp::Le, THREE);
-    let last = at_most(I_NAME, None, 3);
     let below = at_most(I_NAME, J_NAME, -1);
     let above = at_most(J_NAME, I_NAME, -1);
     let cases: [(Cmp, &[IdxLit]); 6] = [
-        (Cmp::Le, &[above, last]),
-        (Cmp::Lt, &[at_most(J_NAME, I_NAME, 0), last]),
-        (Cmp::Eq, &[below, above, last]),
-        (Cmp::Ne, &[equal(I_NAME, J_NAME, 0), last]),
-        (Cmp::Ge, &[below, last]),
-        (Cmp::Gt, &[at_most(I_NAME, J_NAME, 0), last]),
+        (Cmp::Le, &[above]),
+        (Cmp::Lt, &[at_most(J_NAME, I_NAME, 0)]),
+        (Cmp::Eq, &[below, above]),
+        (Cmp::Ne, &[equal(I_NAME, J_NAME, 0)]),
+        (Cmp::Ge, &[below]),
+        (Cmp::Gt, &[at_most(I_NAME, J_NAME, 0)]),
     ];
     for (cmp, want) in cases {
         assert_eq!(rt;
-            seen(rt.alloc(), &[relates(I, cmp, J)], &[head], want),
+            seen(rt.alloc(), Side::Guard, relates(I, cmp, J), want),
             Ok(Answer::Same)
         );
     }
 }
 
 #[test]
-fn other_problems(rt: HostRuntime) {
+fn other_atoms(rt: HostRuntime) {
     let cases = [relates(THREE, Cmp::Lt, THREE), relates(I, Cmp::Lt, UNKNOWN)];
     for atom in cases {
-        assert_eq!(rt; seen(rt.alloc(), &[], &[atom], &[]), Ok(Answer::Other));
+        assert_eq!(rt; seen(rt.alloc(), Side::Head, atom, &[]), Ok(Answer::Other));
     }
 }

@@ -1,4 +1,5 @@
 pub mod Names
 pub mod Terms
+pub mod Atoms
 pub mod Clauses
 pub mod Scope

@@ -2,8 +2,8 @@
 
 ghost use Rattle.hp_scope.specs.Laws.{ScopeBySorts};
 
-/// A well-sorted problem is one over index constants, as its ground lines ask, exactly where it declares constants
-/// of sort idx alone, no clause has variables, and each atom is of sort idx.
+/// A well-sorted problem is one that ground lines are for exactly where it declares constants of sort idx and num
+/// alone, no clause has variables, and each atom is of sort idx or num.
 pub fn scope_by_sorts()
     ensures { ScopeBySorts }
 {}

@@ -1,4 +1,4 @@
-//! The problems over index constants that ground lines are made for, told by the rules on names and sorts alone.
+//! The problems that ground lines are made for, told by the rules on names and sorts alone.
 #![tactic(auto)]
 
 mod laws;

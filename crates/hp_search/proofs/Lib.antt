@@ -1,5 +1,7 @@
 pub mod Waiting
 pub mod Opening
 pub mod Wholes
-pub mod Placing
+pub mod Reading
+pub mod Judging
 pub mod Closing
+pub mod Showing

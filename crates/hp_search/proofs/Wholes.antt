@@ -1,21 +1,16 @@
 -- Whole numbers among the fractions.
-use Rattle.std.proofs.Common.{◌≡◌, ℕ, ◌^◌, ℤ, pos, neg_ℤ, ◌+ℤ◌, ◌-ℤ◌, ◌≤ℤ◌, inl, inr, refl, sym, ◌∙◌, ap, subst, arith, true, false, Some, ◌<◌, List, length, get_or, to_z, of_z}
+use Rattle.std.proofs.Common.{◌≡◌, ℕ, ◌^◌, ℤ, pos, neg_ℤ, ◌+ℤ◌, ◌-ℤ◌, ◌≤ℤ◌, inl, inr, refl, sym, ◌∙◌, ap, subst, arith, true, false, Some, to_z, of_z}
 use Rattle.std.specs.Int.{w128}
-use Rattle.std.specs.Prelude.{slice_index_or, slice_get}
-use Rattle.std.proofs.lemmas.Option.{slice_get_within, get_or_from_slice_get, slice_get-get_or}
-use Rattle.std.specs.List.{All}
+use Rattle.std.specs.Prelude.{slice_get}
+use Rattle.std.proofs.lemmas.Option.{get_or_from_slice_get}
 use Rattle.hp_diff.specs.Rows.{IsSmallWhole}
-use Rattle.hp_search.specs.Rows.{IsSmallIndex, Keeps}
+use Rattle.hp_search.specs.Lines.{IsSmallIndex, Keeps}
 use Rattle.std.proofs.lemmas.Int.{ints}
 use Rattle.std.proofs.lemmas.Bool.{eqb-true}
 use Rattle.hp_math.specs.Rational.{ℚ, ratio, whole, is_whole, ◌+ℚ◌, ◌-ℚ◌, ◌≤ℚ◌}
 use Rattle.hp_math.proofs.Rational.{ratio-parts, ratio-≤, ratio-≤_out, ratio-inj, ratio-+, ratio-neg}
 use Rattle.hp_base.specs.declared.literal.IdxLit.{IdxLit}
-use Rattle.hp_base.specs.declared.literal.Lit.{Lit}
-use Rattle.hp_base.specs.declared.literal.Lit.TheVariants.{Idx}
-use Rattle.hp_base.specs.Truth.{Values, optional_value, IdxIsTrue, IsTrueAt, LineIsTrue}
-use Rattle.hp_leaf.specs.Tree.{nothing}
-use Rattle.hp_leaf.proofs.Counting.{some_true}
+use Rattle.hp_base.specs.Truth.{Values, name_value, optional_value, IdxIsTrue}
 
 pub whole_of : (q : ℚ) → is_whole q ≡ true → q ≡ whole q.num
 unfolding whole
@@ -52,10 +47,11 @@ module _ (v : Values) (row : IdxLit) (a b : ℤ) (left : optional_value v row.le
   true_kept (inr h) = let e = whole_same (a -ℤ b) row.bound (sym difference ∙ h) in (omega (arith, ints), λ f. omega (arith, ints))
 
 -- the value of a name
-pub index_given : (v : Values) (n : ℕ) (q : ℚ) (r : ℤ) → All IsSmallWhole v → slice_get v n ≡ Some q → r ≡ q.num → slice_index_or v n (whole (pos 0)) ≡ whole r
+pub index_given : (v : Values) (n : ℕ) (q : ℚ) (r : ℤ) → IsSmallWhole (name_value v n) → slice_get v n ≡ Some q → r ≡ q.num → name_value v n ≡ whole r
 index_given v n q r small at e =
-    let s : IsSmallWhole q = subst IsSmallWhole (get_or_from_slice_get v n q q at) (small n q (slice_get_within v n q at)) in
-    get_or_from_slice_get v n q (whole (pos 0)) at ∙ whole_of q s.whole ∙ ap whole (sym e)
+    let given : name_value v n ≡ q = get_or_from_slice_get v n q (whole (pos 0)) at in
+    let s : IsSmallWhole q = subst IsSmallWhole given small in
+    given ∙ whole_of q s.whole ∙ ap whole (sym e)
 
 -- the same of numbers that went to bits and back
 pub kept_in : (row : IdxLit) (a b : ℤ) → IsSmallIndex a → IsSmallIndex b → Keeps row a b → Keeps row (to_z w128 (of_z w128 a)) (to_z w128 (of_z w128 b))
@@ -64,15 +60,9 @@ kept_in row a b p q h = (omega (arith, ints, h.0), λ e. omega (arith, ints, h.1
 pub kept_out : (row : IdxLit) (a b : ℤ) → IsSmallIndex a → IsSmallIndex b → Keeps row (to_z w128 (of_z w128 a)) (to_z w128 (of_z w128 b)) → Keeps row a b
 kept_out row a b p q h = (omega (arith, ints, h.0), λ e. omega (arith, ints, h.1 e))
 
--- one true row makes its line true
-pub line_some : (v : Values) (lits items : List Lit) (i : ℕ) (x : Lit) (row : IdxLit) → items ≡ lits → i < length items → x ≡ get_or items i x → x ≡ Idx row → IdxIsTrue v row → LineIsTrue v lits
-line_some v lits items i x row s b e f h =
-    let same : get_or items i nothing ≡ Idx row = get_or_from_slice_get items i (get_or items i x) nothing (slice_get-get_or items i x b) ∙ sym e ∙ f in
-    subst (LineIsTrue v) s (some_true v items i b (subst (IsTrueAt v) (sym same) h))
-
-pub index_small : (v : Values) (n : ℕ) (q : ℚ) (r : ℤ) → All IsSmallWhole v → slice_get v n ≡ Some q → r ≡ q.num → IsSmallIndex (to_z w128 (of_z w128 r))
+pub index_small : (v : Values) (n : ℕ) (q : ℚ) (r : ℤ) → IsSmallWhole (name_value v n) → slice_get v n ≡ Some q → r ≡ q.num → IsSmallIndex (to_z w128 (of_z w128 r))
 index_small v n q r small at e =
-    let s : IsSmallWhole q = subst IsSmallWhole (get_or_from_slice_get v n q q at) (small n q (slice_get_within v n q at)) in
+    let s : IsSmallWhole q = subst IsSmallWhole (get_or_from_slice_get v n q (whole (pos 0)) at) small in
     bits r (subst (λ x. pos 0 ≤ℤ (x +ℤ pos (10 ^ 37))) (sym e) s.low) (subst (λ x. x ≤ℤ pos (10 ^ 37)) (sym e) s.high)
   where
     bits : (r : ℤ) → pos 0 ≤ℤ (r +ℤ pos (10 ^ 37)) → r ≤ℤ pos (10 ^ 37) → IsSmallIndex (to_z w128 (of_z w128 r))

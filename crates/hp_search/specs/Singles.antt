@@ -1,47 +1,56 @@
 -- Lines of one literal.
-use Rattle.std.specs.Prelude.{◌≡◌, ℕ, suc, ◌-◌, ◌≤◌, List, [], ◌∷◌, ◌++◌, length, map, Option, Some, None, slice_get}
+use Rattle.std.specs.Prelude.{◌≡◌, ℕ, suc, ◌-◌, ◌≤◌, List, [], ◌∷◌, length, map, Option, Some, None, slice_get}
 use Rattle.std.specs.List.{All}
-use Rattle.hp_ast.specs.declared.problem.Sort.{Sort}
-use Rattle.hp_base.specs.declared.literal.IdxLit.{IdxLit}
-use Rattle.hp_base.specs.declared.literal.Lit.TheVariants.{Idx}
 use Rattle.hp_base.specs.declared.line.Line.{Line}
+use Rattle.hp_base.specs.declared.proof.Choice.{Choice}
+use Rattle.hp_base.specs.declared.proof.Share.{Share}
 use Rattle.hp_base.specs.declared.proof.Step.{Step}
-use Rattle.hp_leaf.specs.declared.tree.LeafProof.TheVariants.{Idx as IdxLeaf}
+use Rattle.hp_leaf.specs.declared.tree.LeafProof.{LeafProof}
+use Rattle.hp_leaf.specs.declared.tree.LeafProof.TheVariants.{Num, Idx, Ptr}
 use Rattle.hp_leaf.specs.declared.tree.Node.{Node}
-use Rattle.hp_leaf.specs.declared.tree.Node.TheVariants.{Split, Leaf}
+use Rattle.hp_leaf.specs.declared.tree.Node.TheVariants.{Split}
 use Rattle.hp_leaf.specs.Tree.{lits_at, IsLine}
-use Rattle.hp_search.specs.declared.singles.Single.{Single}
-use Rattle.hp_search.specs.Rows.{IsRowOver}
 
-abbrev pub single_row : Single → IdxLit
-single_row s = s.row
+-- the only literal of a line
+pub record IsSingleOf (lines : List Line) (c : Choice) : Type 0 where
+  pub within : IsLine lines c.line
+  pub only : length (lits_at lines c.line) ≡ 1
+  pub first : c.lit ≡ 1
 
--- the line has this row as its only literal
-pub record IsSingleOf (sorts : List Sort) (lines : List Line) (s : Single) : Type 0 where
-  pub within : IsLine lines s.line
-  pub only : lits_at lines s.line ≡ Idx s.row ∷ []
-  pub row : IsRowOver sorts s.row
-
-pub record AreSinglesOf (sorts : List Sort) (lines : List Line) (singles : List Single) : Type 0 where
-  pub each : All (IsSingleOf sorts lines) singles
+pub record AreSinglesOf (lines : List Line) (singles : List Choice) : Type 0 where
+  pub each : All (IsSingleOf lines) singles
   pub few : length singles ≤ length lines
 
-abbrev pub AreStepsWithin : ℕ → List Step → Type 0
-AreStepsWithin count steps = All (λ s. s.lit ≤ count) steps
+-- ---- leaves over the first literals
+abbrev pub IsLeafWithin : ℕ → LeafProof → Type 0
+IsLeafWithin count (Num shares) = All (λ s. s.lit ≤ count) shares
+IsLeafWithin count (Idx steps) = All (λ s. s.lit ≤ count) steps
+IsLeafWithin count (Ptr ne path) = ⊥
 
 -- ---- the tree that closes lines of one literal
-abbrev pub line_in : Option Single → ℕ
+abbrev pub line_in : Option Choice → ℕ
 line_in None = 0
-line_in (Some s) = s.line
+line_in (Some c) = c.line
 
--- the line of a row, both counted from 1
-abbrev pub line_at : List Single → ℕ → ℕ
+-- the line of a literal, both counted from 1
+abbrev pub line_at : List Choice → ℕ → ℕ
 line_at singles n = line_in (slice_get singles (n - 1))
 
--- the same steps, over rows in the order of the steps
-abbrev pub renumbered : ℕ → List Step → List Step
-renumbered n [] = []
-renumbered n (s ∷ ss) = record { lit = suc n; forward = s.forward } ∷ renumbered (suc n) ss
+abbrev pub lines_of_steps : List Choice → List Step → List ℕ
+lines_of_steps singles steps = map (λ s. line_at singles s.lit) steps
 
-abbrev pub closing_tree : List Single → List Step → List Node
-closing_tree singles steps = map (λ s. Split (line_at singles s.lit)) steps ++ Leaf (IdxLeaf (renumbered 0 steps)) ∷ []
+abbrev pub lines_of_shares : List Choice → List Share → List ℕ
+lines_of_shares singles shares = map (λ s. line_at singles s.lit) shares
+
+abbrev pub splits_of : List ℕ → List Node
+splits_of lines = map Split lines
+
+-- the same steps, over literals in the order of the steps
+abbrev pub steps_in_order : ℕ → List Step → List Step
+steps_in_order n [] = []
+steps_in_order n (s ∷ ss) = record { lit = suc n; forward = s.forward } ∷ steps_in_order (suc n) ss
+
+-- the same shares, over literals in the order of the shares
+abbrev pub shares_in_order : ℕ → List Share → List Share
+shares_in_order n [] = []
+shares_in_order n (s ∷ ss) = record { lit = suc n; times = s.times } ∷ shares_in_order (suc n) ss

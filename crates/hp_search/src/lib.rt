@@ -2,9 +2,9 @@
 //! there are none or where it is given up.
 #![tactic(auto)]
 
+mod literals;
 mod looking;
 mod places;
-mod rows;
 mod searching;
 mod singles;
 mod truth;

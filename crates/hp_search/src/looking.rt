@@ -1,46 +1,62 @@
 //! What shows at a place of the tree: a model, a line to split, or a leaf.
 //!
-//! The rows of the path are decided together with those of all lines of one literal. Where these conflict, the path is
-//! decided alone, and the lines of the conflict are those to split first.
-ghost use Rattle.std.specs.Prelude.{◌≡◌, ◌≤◌, IfOk, length, true};
+//! The literals of the path are decided together with those of all lines of one literal. Where these conflict, the path is
+//! decided alone, and the lines of the conflict are those to split first. Where a number is too wide for that, and where
+//! the values have to be those of a chain, the literals of the path alone are decided by dimension descent, whose strain
+//! is one of this path.
+ghost use Rattle.std.specs.Prelude.{◌≡◌, ◌≤◌, IfOk, IfErr, length, true};
 ghost use Rattle.std.specs.List.{All};
 ghost use Rattle.hp_base.specs.Names.{sorts};
-ghost use Rattle.hp_leaf.specs.Path.{AreIn};
 ghost use Rattle.hp_leaf.specs.Tree.{place_lits};
-ghost use Rattle.hp_search.specs.Rows.{AreRows};
-ghost use Rattle.hp_search.specs.Search.{Decides, Sees};
-ghost use Rattle.hp_search.specs.Singles.{AreSinglesOf, AreStepsWithin};
+ghost use Rattle.hp_path.specs.Decided.{AreOfChain, AreValuesFor};
+ghost use Rattle.hp_search.specs.Lines.{AreBuilt};
+ghost use Rattle.hp_search.specs.Search.{FindsAhead, IsCauseAt, Looks, Sees, SeesChain};
+ghost use Rattle.hp_search.specs.Singles.{AreSinglesOf, IsLeafWithin};
 
-use crate::rows::{RowAnswer, decide_rows, rows_of};
+use crate::literals::{lits_of, push_lits};
 use crate::searching::SearchErr;
-use crate::singles::{Single, suspects, with_singles};
-use crate::truth::first_false;
-use hp_base::{Choice, Ground, Step, Valuation};
+use crate::singles::suspects;
+use crate::truth::{Verdict, first_false};
+use hp_base::{Choice, Ground, Share, Step, Valuation};
+use hp_descent::{At, DescentErr, Form, Place, RowStrain, Strain};
 use hp_leaf::LeafProof;
-use hp_num::List;
+use hp_num::{List, Wide};
+use hp_path::{Decision, Quick, decide, decide_quickly};
 use std::alloc::{AllocError, Global};
 
-/// What shows at a place: values that make every line true, a line that some values leave false, or a leaf.
+/// What shows at a place: values that make every line true, with their chain where they were to have one; a line that some
+/// values leave false; or a leaf.
 #[derive(Drop)]
 pub enum Seen {
-    Model(Valuation),
+    Model {
+        values: Valuation,
+        chain: Option<List<u32>>,
+    },
     Split(u32),
     Leaf(LeafProof),
 }
 
-/// Values that make the literals of a path true, with lines to look at first, or a leaf over the literals.
+/// What shows at a place at a quick look, or nothing.
 #[derive(Drop)]
-pub enum Decision {
+enum QuickLook {
+    Seen(Seen),
+    Unknown,
+}
+
+/// Values that make the literals of a path true, with lines to look at first; a leaf over them; or nothing.
+#[derive(Drop)]
+enum Ahead {
     Values {
         values: Valuation,
         suspects: List<u32>,
     },
     Leaf(LeafProof),
+    Unknown,
 }
 
-/// Whether no step names a row after the first `count`.
-fn are_within(steps: &[Step], count: usize) -> bool
-    ensures { result ≡ true → AreStepsWithin count steps.now }
+/// Whether no step names a literal after the first `count`.
+fn are_steps_within(steps: &[Step], count: usize) -> bool
+    ensures { result ≡ true → All (λ step. step.lit ≤ count) steps.now }
 {
     for step in steps {
         if step.lit as usize > count {
@@ -50,59 +66,196 @@ fn are_within(steps: &[Step], count: usize) -> bool
     true
 }
 
-/// Decides the literals of a path, together with the lines of one literal where they agree.
-fn decide_at(
+/// Whether no share names a literal after the first `count`.
+fn are_shares_within(shares: &[Share], count: usize) -> bool
+    ensures { result ≡ true → All (λ share. share.lit ≤ count) shares.now }
+{
+    for share in shares {
+        if share.lit as usize > count {
+            return false;
+        }
+    }
+    true
+}
+
+/// Whether a leaf names no literal after the first `count`.
+fn is_within(proof: &LeafProof, count: usize) -> bool
+    ensures { result ≡ true → IsLeafWithin count proof.now }
+{
+    match proof {
+        LeafProof::Idx(steps) => are_steps_within(steps.as_slice(), count),
+        LeafProof::Num(shares) => are_shares_within(shares.as_slice(), count),
+        LeafProof::Ptr { .. } => false,
+    }
+}
+
+/// Decides the literals of a path alone, with these lines to look at first.
+fn decide_alone(
     alloc: Global,
     g: &Ground,
-    singles: &[Single],
-    path: &List<Choice>,
-) -> Result<Decision, AllocError>
-    requires rows { All (λ line. AreRows (sorts g.now.names) line.lits) g.now.lines }
-    requires lines { length g.now.lines ≤ 50000 }
-    requires singles { AreSinglesOf (sorts g.now.names) g.now.lines singles.now }
+    path: &[Choice],
+    suspects: List<u32>,
+) -> Result<Ahead, AllocError>
+    requires built { All (λ line. AreBuilt (sorts g.now.names) line.lits) g.now.lines }
     requires path { length path.now ≤ 50000 }
-    ensures { IfOk result (λ decision. Decides (sorts g.now.names) (place_lits g.now.lines path.now) decision) }
+    ensures { IfOk result (FindsAhead (sorts g.now.names) (place_lits g.now.lines path.now)) }
 {
-    let rows = rows_of(alloc, g, path)?;
-    let all = with_singles(alloc, &rows, singles)?;
-    match decide_rows(alloc, g, &all)? {
-        RowAnswer::Values(values) => Ok(Decision::Values {
+    let lits = lits_of(alloc, g, path)?;
+    match decide_quickly(alloc, &g.names, lits.as_slice())? {
+        Quick::Values(values) => Ok(Ahead::Values { values, suspects }),
+        Quick::Leaf(proof) => Ok(Ahead::Leaf(proof)),
+        Quick::Unknown => Ok(Ahead::Unknown),
+    }
+}
+
+/// Decides the literals of a path, together with the lines of one literal where they agree.
+fn decide_ahead(
+    alloc: Global,
+    g: &Ground,
+    singles: &[Choice],
+    path: &[Choice],
+) -> Result<Ahead, AllocError>
+    requires built { All (λ line. AreBuilt (sorts g.now.names) line.lits) g.now.lines }
+    requires lines { length g.now.lines ≤ 50000 }
+    requires singles { AreSinglesOf g.now.lines singles.now }
+    requires path { length path.now ≤ 50000 }
+    ensures { IfOk result (FindsAhead (sorts g.now.names) (place_lits g.now.lines path.now)) }
+{
+    let mut lits = lits_of(alloc, g, path)?;
+    push_lits(alloc, g, singles, &mut lits)?;
+    match decide_quickly(alloc, &g.names, lits.as_slice())? {
+        Quick::Values(values) => Ok(Ahead::Values {
             values,
             suspects: List::new(alloc),
         }),
-        RowAnswer::Cycle(steps) => {
-            if are_within(steps.as_slice(), rows.len()) {
-                return Ok(Decision::Leaf(LeafProof::Idx(steps)));
+        Quick::Unknown => Ok(Ahead::Unknown),
+        Quick::Leaf(proof) => {
+            if is_within(&proof, path.len()) {
+                return Ok(Ahead::Leaf(proof));
             }
-            let suspects = suspects(alloc, singles, rows.len(), steps.as_slice())?;
-            match decide_rows(alloc, g, &rows)? {
-                RowAnswer::Values(values) => Ok(Decision::Values { values, suspects }),
-                RowAnswer::Cycle(steps) => Ok(Decision::Leaf(LeafProof::Idx(steps))),
+            let suspects = suspects(alloc, singles, path.len(), &proof)?;
+            decide_alone(alloc, g, path, suspects)
+        }
+    }
+}
+
+/// Looks for a line that values leave false, without chains.
+fn look_quickly(
+    alloc: Global,
+    g: &Ground,
+    singles: &[Choice],
+    path: &[Choice],
+) -> Result<QuickLook, AllocError>
+    requires built { All (λ line. AreBuilt (sorts g.now.names) line.lits) g.now.lines }
+    requires lines { length g.now.lines ≤ 50000 }
+    requires singles { AreSinglesOf g.now.lines singles.now }
+    requires path { length path.now ≤ 50000 }
+    ensures { IfOk result (Looks (sorts g.now.names) g.now.lines path.now) }
+{
+    match decide_ahead(alloc, g, singles, path)? {
+        Ahead::Unknown => Ok(QuickLook::Unknown),
+        Ahead::Leaf(proof) => Ok(QuickLook::Seen(Seen::Leaf(proof))),
+        Ahead::Values { values, suspects } => {
+            match first_false(g, &values, suspects.as_slice())? {
+                Verdict::AllTrue => Ok(QuickLook::Seen(Seen::Model {
+                    values,
+                    chain: None,
+                })),
+                Verdict::False(line) => Ok(QuickLook::Seen(Seen::Split(line))),
+                Verdict::Wide { .. } => Ok(QuickLook::Unknown),
             }
         }
     }
 }
 
-/// Decides the literals of the path, and looks for a line that the values found leave false.
+/// A copy of a path.
+fn copy_of(alloc: Global, path: &[Choice]) -> Result<List<Choice>, AllocError>
+    ensures { IfOk result (λ copy. copy ≡ path.now) }
+{
+    let mut copy = List::new(alloc);
+    for choice in path {
+        copy.push(*choice)?;
+    }
+    Ok(copy)
+}
+
+/// A strain over the literals of a path, or want of memory.
+fn strained(alloc: Global, path: &[Choice], row: RowStrain) -> SearchErr
+    ensures { Rattle.hp_search.specs.Search.IsStrainedAs path.now row result }
+{
+    match copy_of(alloc, path) {
+        Ok(path) => SearchErr::Strain(Strain {
+            place: Place::Path(path),
+            row,
+        }),
+        Err(_) => SearchErr::Memory,
+    }
+}
+
+/// Decides the literals of the path by dimension descent, and looks for a line that the values of its chain leave false.
+fn look_exactly(alloc: Global, g: &Ground, path: &[Choice]) -> Result<Seen, SearchErr>
+    requires built { All (λ line. AreBuilt (sorts g.now.names) line.lits) g.now.lines }
+    requires lines { length g.now.lines ≤ 50000 }
+    requires path { length path.now ≤ 50000 }
+    ensures seen { IfOk result (SeesChain (sorts g.now.names) g.now.lines path.now) }
+    ensures strained { IfErr result (IsCauseAt g.now.lines path.now) }
+{
+    let lits = lits_of(alloc, g, path)?;
+    match decide(alloc, &g.names, lits.as_slice()) {
+        Err(DescentErr::Memory) => Err(SearchErr::Memory),
+        Err(DescentErr::Strain(row)) => Err(strained(alloc, path, row)),
+        Ok(Decision::Leaf(proof)) => Ok(Seen::Leaf(proof)),
+        Ok(Decision::Values { values, chain }) => match first_false(g, &values, &[])? {
+            Verdict::AllTrue => Ok(Seen::Model {
+                values,
+                chain: Some(chain),
+            }),
+            Verdict::False(line) => Ok(Seen::Split(line)),
+            Verdict::Wide { choice, wide } => Err(strained(
+                alloc,
+                path,
+                RowStrain {
+                    chain,
+                    at: At::Literal {
+                        line: choice.line,
+                        lit: choice.lit,
+                    },
+                    form: Form::Sum,
+                    wide,
+                },
+            )),
+        },
+    }
+}
+
+/// Decides the literals of the path, and looks for a line that the values found leave false. Where `exact`, the values are
+/// those of a chain of the path.
 pub fn look(
     alloc: Global,
     g: &Ground,
-    singles: &[Single],
-    path: &List<Choice>,
+    singles: &[Choice],
+    path: &[Choice],
+    exact: bool,
 ) -> Result<Seen, SearchErr>
-    requires rows { All (λ line. AreRows (sorts g.now.names) line.lits) g.now.lines }
+    requires built { All (λ line. AreBuilt (sorts g.now.names) line.lits) g.now.lines }
     requires lines { length g.now.lines ≤ 50000 }
-    requires singles { AreSinglesOf (sorts g.now.names) g.now.lines singles.now }
+    requires singles { AreSinglesOf g.now.lines singles.now }
     requires path { length path.now ≤ 50000 }
-    ensures { IfOk result (λ seen. Sees (sorts g.now.names) g.now.lines path.now seen) }
+    ensures seen { IfOk result (Sees (sorts g.now.names) g.now.lines path.now exact) }
+    ensures strained { IfErr result (IsCauseAt g.now.lines path.now) }
 {
-    match decide_at(alloc, g, singles, path)? {
-        Decision::Leaf(proof) => Ok(Seen::Leaf(proof)),
-        Decision::Values { values, suspects } => {
-            match first_false(g, &values, suspects.as_slice()) {
-                None => Ok(Seen::Model(values)),
-                Some(line) => Ok(Seen::Split(line)),
-            }
-        }
+    if exact {
+        return look_exactly(alloc, g, path);
+    }
+    match look_quickly(alloc, g, singles, path)? {
+        QuickLook::Seen(seen) => Ok(seen),
+        QuickLook::Unknown => match look_exactly(alloc, g, path)? {
+            Seen::Model { values, .. } => Ok(Seen::Model {
+                values,
+                chain: None,
+            }),
+            Seen::Split(line) => Ok(Seen::Split(line)),
+            Seen::Leaf(proof) => Ok(Seen::Leaf(proof)),
+        },
     }
 }

@@ -1,17 +1,18 @@
 //! The search: at each place values that make every line true, a split of a line that some values leave false, or a
 //! leaf. One node is made a turn, so the number of turns is the number of nodes.
-ghost use Rattle.std.specs.Prelude.{◌≤◌, IfOk, length};
+ghost use Rattle.std.specs.Prelude.{◌≤◌, IfOk, IfErr, length};
 ghost use Rattle.std.specs.List.{All};
 ghost use Rattle.hp_base.specs.Names.{sorts};
 ghost use Rattle.hp_leaf.specs.Tree.{limit};
-ghost use Rattle.hp_search.specs.Rows.{AreRows};
-ghost use Rattle.hp_search.specs.Search.{IsAt, IsFound, IsNotSpent, Turned};
+ghost use Rattle.hp_search.specs.Lines.{AreBuilt};
+ghost use Rattle.hp_search.specs.Search.{IsAt, IsCause, IsFound, IsNotSpent, Turned};
 ghost use Rattle.hp_search.specs.Singles.{AreSinglesOf};
 
 use crate::looking::{Seen, look};
 use crate::places::{enter, go_on, leave};
-use crate::singles::{Single, close_singles, singles_of};
+use crate::singles::{close_singles, singles_of};
 use hp_base::{Choice, Ground, Valuation};
+use hp_descent::Strain;
 use hp_leaf::Node;
 use hp_num::List;
 use std::alloc::{AllocError, Global};
@@ -22,6 +23,9 @@ use std::alloc::{AllocError, Global};
 pub struct Solution {
     pub values: Valuation,
     pub path: List<Choice>,
+    /// Where the search was to be exact, the rows of a chain of the literals over fractions of the path, whose numbers count
+    /// from 1 (that of t) and fall: its point gives the values of the names of sort num.
+    pub chain: Option<List<u32>>,
 }
 
 /// What a search found.
@@ -36,13 +40,21 @@ pub enum Found {
 }
 
 /// Why a search gave no answer.
-#[derive(Clone, Copy, Debug, PartialEq, Eq)]
+#[derive(Drop)]
 pub enum SearchErr {
-    /// Memory was wanting.
+    /// A number passes 2^127 - 1 in the descent over the literals over fractions of an honest path, or in the sum of a literal
+    /// of a line at values that satisfy them.
+    Strain(Strain),
+    /// Memory was wanting, or the number of a literal in its line has more than 32 bits.
     Memory,
 }
 
 impl From<AllocError> for SearchErr {
+    ghost use Rattle.std.specs.Prelude.{◌≡◌};
+    ghost use Rattle.hp_search.specs.declared.searching.SearchErr.TheVariants.{Memory as memory};
+
+    ghost from_gives = { λ _ e. e ≡ memory };
+
     fn from(_error: AllocError) -> SearchErr {
         SearchErr::Memory
     }
@@ -51,7 +63,10 @@ impl From<AllocError> for SearchErr {
 /// What opening a place led to.
 #[derive(Drop)]
 enum Turn {
-    Model(Valuation),
+    Model {
+        values: Valuation,
+        chain: Option<List<u32>>,
+    },
     Closed,
     Open,
 }
@@ -60,18 +75,20 @@ enum Turn {
 fn open_place(
     alloc: Global,
     g: &Ground,
-    singles: &[Single],
+    singles: &[Choice],
     tree: &mut List<Node>,
     path: &mut List<Choice>,
+    exact: bool,
 ) -> Result<Turn, SearchErr>
-    requires rows { All (λ line. AreRows (sorts g.now.names) line.lits) g.now.lines }
+    requires built { All (λ line. AreBuilt (sorts g.now.names) line.lits) g.now.lines }
     requires lines { length g.now.lines ≤ 50000 }
-    requires singles { AreSinglesOf (sorts g.now.names) g.now.lines singles.now }
+    requires singles { AreSinglesOf g.now.lines singles.now }
     requires at { IsAt (sorts g.now.names) g.now.lines tree.old path.old }
-    ensures { IfOk result (λ turn. Turned (sorts g.now.names) g.now.lines tree.old tree.new path.new turn) }
+    ensures turned { IfOk result (Turned (sorts g.now.names) g.now.lines exact tree.old tree.new path.new) }
+    ensures cause { IfErr result (IsCause (sorts g.now.names) g.now.lines) }
 {
-    match look(alloc, g, singles, path)? {
-        Seen::Model(values) => Ok(Turn::Model(values)),
+    match look(alloc, g, singles, path.as_slice(), exact)? {
+        Seen::Model { values, chain } => Ok(Turn::Model { values, chain }),
         Seen::Split(line) => {
             tree.push(Node::Split { line })?;
             if enter(g, path, line)? {
@@ -95,21 +112,29 @@ fn open_place(
 fn search_places(
     alloc: Global,
     g: &Ground,
-    singles: &[Single],
+    singles: &[Choice],
     most: u64,
+    exact: bool,
 ) -> Result<Found, SearchErr>
     requires most { 1 ≤ most }
-    requires rows { All (λ line. AreRows (sorts g.now.names) line.lits) g.now.lines }
+    requires built { All (λ line. AreBuilt (sorts g.now.names) line.lits) g.now.lines }
     requires lines { length g.now.lines ≤ 50000 }
-    requires singles { AreSinglesOf (sorts g.now.names) g.now.lines singles.now }
-    ensures found { IfOk result (λ found. IsFound (sorts g.now.names) g.now.lines most found) }
+    requires singles { AreSinglesOf g.now.lines singles.now }
+    ensures found { IfOk result (IsFound (sorts g.now.names) g.now.lines most exact) }
+    ensures cause { IfErr result (IsCause (sorts g.now.names) g.now.lines) }
     ensures enough { limit g.now.lines ≤ most → IfOk result IsNotSpent }
 {
     let mut tree = List::new(alloc);
     let mut path = List::new(alloc);
     for _done in 0..most {
-        match open_place(alloc, g, singles, &mut tree, &mut path)? {
-            Turn::Model(values) => return Ok(Found::Model(Solution { values, path })),
+        match open_place(alloc, g, singles, &mut tree, &mut path, exact)? {
+            Turn::Model { values, chain } => {
+                return Ok(Found::Model(Solution {
+                    values,
+                    path,
+                    chain,
+                }));
+            }
             Turn::Closed => return Ok(Found::Closed(tree)),
             Turn::Open => {}
         }
@@ -121,24 +146,31 @@ fn search_places(
 /// Searches for values that make every line true, with at most `most` splits and leaves.
 ///
 /// `Model` has a value for each name, of the name's sort, those of index names of a magnitude of at most 10^37. They
-/// make every line true. `Closed` has a tree whose splits name lines and have a tree for each literal, and whose
-/// leaves are all valid; there are then no such values. `Spent` has an honest tree with exactly `most` splits and
-/// leaves and at least one unopened place: at each split some values make its path true and its line false, and after
-/// the first unopened place stand only others. It isn't answered where `most` is at least the product, over the lines,
-/// of one plus the number of literals. `Memory` says that memory was wanting.
+/// make every line true. Where `exact`, those of sort num are what the point of its chain gives, and 0 where a name occurs in
+/// no literal of its path; the chain is there exactly then. `Closed` has a tree whose splits name lines and have a tree for
+/// each literal, and whose leaves are all valid; there are then no such values. `Spent` has an honest tree with exactly
+/// `most` splits and leaves and at least one unopened place: at each split some values make its path true and its line
+/// false, and after the first unopened place stand only others. It isn't answered where `most` is at least the product,
+/// over the lines, of one plus the number of literals.
 ///
-/// It asks for `most` from 1 on and at most 50,000 lines. Each literal is over whole numbers, of names of sort idx and
-/// with a bound of a magnitude of at most 10^25; the other kinds aren't searched yet.
-pub fn search(alloc: Global, g: &Ground, most: u64) -> Result<Found, SearchErr>
+/// `Strain` has an honest path, and names the first number that passes 2^127 - 1 in the descent over its literals over
+/// fractions, or in the sum of a literal of a line at values that satisfy them. `Memory` says that memory was wanting,
+/// or that the number of a literal in its line has more than 32 bits.
+///
+/// It asks for `most` from 1 on and at most 50,000 lines. Each literal is over fractions, in normal form and over names of
+/// sort num, or over whole numbers, of names of sort idx and with a bound of a magnitude of at most 10^25; literals over
+/// pointers aren't searched yet.
+pub fn search(alloc: Global, g: &Ground, most: u64, exact: bool) -> Result<Found, SearchErr>
     requires most { 1 ≤ most }
     requires lines { length g.now.lines ≤ 50000 }
-    requires rows { All (λ line. AreRows (sorts g.now.names) line.lits) g.now.lines }
-    ensures found { IfOk result (λ found. IsFound (sorts g.now.names) g.now.lines most found) }
+    requires built { All (λ line. AreBuilt (sorts g.now.names) line.lits) g.now.lines }
+    ensures found { IfOk result (IsFound (sorts g.now.names) g.now.lines most exact) }
+    ensures cause { IfErr result (IsCause (sorts g.now.names) g.now.lines) }
     ensures enough { limit g.now.lines ≤ most → IfOk result IsNotSpent }
 {
     let singles = singles_of(alloc, g)?;
     match close_singles(alloc, g, singles.as_slice())? {
         Some(tree) => Ok(Found::Closed(tree)),
-        None => search_places(alloc, g, singles.as_slice(), most),
+        None => search_places(alloc, g, singles.as_slice(), most, exact),
     }
 }

@@ -1,76 +1,38 @@
-//! Lines of one literal. Each of them has to be true, so their rows are decided together.
-ghost use Rattle.std.specs.Prelude.{◌≡◌, ◌≤◌, ◌∷◌, [], ◌++◌, IfOk, IfSome, length, map};
+//! Lines of one literal. Each of them has to be true, so their literals are decided together.
+ghost use Rattle.std.specs.Prelude.{◌≡◌, ◌≤◌, ◌<◌, ◌∷◌, [], ◌++◌, IfOk, IfSome, length, map};
 ghost use Rattle.std.specs.List.{All};
-ghost use Rattle.hp_base.specs.Cycle.{IsValidIdx};
 ghost use Rattle.hp_base.specs.Names.{sorts};
-ghost use Rattle.hp_leaf.specs.Tree.{IsClosed};
-ghost use Rattle.hp_search.specs.Rows.{AreRows};
-ghost use Rattle.hp_search.specs.Singles.{AreSinglesOf, closing_tree, line_at, single_row};
+ghost use Rattle.hp_leaf.specs.Leaf.{IsValid};
+ghost use Rattle.hp_leaf.specs.Tree.{IsClosed, place_lits};
+ghost use Rattle.hp_search.specs.Lines.{AreBuilt};
+ghost use Rattle.hp_search.specs.Singles.{AreSinglesOf, line_at, lines_of_shares, lines_of_steps, shares_in_order, splits_of, steps_in_order};
 
-use crate::rows::{RowAnswer, decide_rows};
-use hp_base::{Ground, IdxLit, Line, Lit, Step};
+use crate::literals::lits_of;
+use hp_base::{Choice, Ground, Share, Step};
 use hp_leaf::{LeafProof, Node};
 use hp_num::List;
+use hp_path::{Quick, decide_quickly};
 use std::alloc::{AllocError, Global};
 
-/// A line of one literal over whole numbers, with its number, counted from 1, and the literal.
-#[derive(Clone, Copy)]
-pub struct Single {
-    pub line: u32,
-    pub row: IdxLit,
-}
-
-/// The only literal of a line, where it is over whole numbers.
-fn only_row(line: &Line) -> Option<IdxLit>
-    ensures { IfSome result (λ row. line.now.lits ≡ Lit.Idx row ∷ []) }
-{
-    if line.lits.len() == 1 {
-        match line.lits.get(0) {
-            Lit::Idx(row) => Some(*row),
-            Lit::Num(_) => None,
-            Lit::Ptr(_) => None,
-        }
-    } else {
-        None
-    }
-}
-
-/// The lines of one literal. Where one is left out, it is split like any other line.
-pub fn singles_of(alloc: Global, g: &Ground) -> Result<List<Single>, AllocError>
-    requires rows { All (λ line. AreRows (sorts g.now.names) line.lits) g.now.lines }
+/// The choices of the only literal of each line that has one.
+pub fn singles_of(alloc: Global, g: &Ground) -> Result<List<Choice>, AllocError>
     requires lines { length g.now.lines ≤ 50000 }
-    ensures { IfOk result (λ singles. AreSinglesOf (sorts g.now.names) g.now.lines singles) }
+    ensures { IfOk result (λ singles. AreSinglesOf g.now.lines singles) }
 {
     let mut singles = List::new(alloc);
     for (at, line) in g.lines.as_slice().iter().enumerate() {
-        match only_row(line) {
-            Some(row) => singles.push(Single {
+        if line.lits.len() == 1 {
+            singles.push(Choice {
                 line: at as u32 + 1,
-                row,
-            })?,
-            None => {}
+                lit: 1,
+            })?;
         }
     }
     Ok(singles)
 }
 
-/// Rows, and then those of lines of one literal.
-pub fn with_singles(
-    alloc: Global,
-    rows: &[IdxLit],
-    singles: &[Single],
-) -> Result<Vec<IdxLit>, AllocError>
-    ensures { IfOk result (λ all. all.items ≡ rows.now ++ map single_row singles.now) }
-{
-    let mut all = Vec::from_slice(alloc, rows)?;
-    for single in singles {
-        all.push(single.row)?;
-    }
-    Ok(all)
-}
-
-/// The line of a row of this number, counted from 1; 0 where there is none.
-fn line_of(singles: &[Single], number: u32) -> u32
+/// The line of the choice of this number, counted from 1; 0 where there is none.
+fn line_of(singles: &[Choice], number: u32) -> u32
     ensures { result ≡ line_at singles.now number }
 {
     match singles.get((number as usize).saturating_sub(1)) {
@@ -80,66 +42,139 @@ fn line_of(singles: &[Single], number: u32) -> u32
 }
 
 /// A split for the line of each step, and a leaf of these steps over them.
-fn tree_of(alloc: Global, singles: &[Single], steps: &[Step]) -> Result<List<Node>, AllocError>
-    requires { length steps.now ≤ 50000 }
-    ensures { IfOk result (λ tree. tree ≡ closing_tree singles.now steps.now) }
+fn tree_of_steps(
+    alloc: Global,
+    singles: &[Choice],
+    steps: &[Step],
+) -> Result<List<Node>, AllocError>
+    requires { length steps.now < 4000000000 }
+    ensures { IfOk result (λ tree. tree ≡ splits_of (lines_of_steps singles.now steps.now) ++ Node.Leaf (LeafProof.Idx (steps_in_order 0 steps.now)) ∷ []) }
 {
     let mut tree = List::new(alloc);
-    let mut renumbered = List::new(alloc);
+    let mut ordered = List::new(alloc);
     for (at, step) in steps.iter().enumerate() {
         tree.push(Node::Split {
             line: line_of(singles, step.lit),
         })?;
-        renumbered.push(Step {
+        ordered.push(Step {
             lit: at as u32 + 1,
             forward: step.forward,
         })?;
     }
-    tree.push(Node::Leaf(LeafProof::Idx(renumbered)))?;
+    tree.push(Node::Leaf(LeafProof::Idx(ordered)))?;
     Ok(tree)
 }
 
-/// A closed tree over lines of one literal alone, where they can't all be true.
-///
-/// A cycle that goes over a row twice is left to the search.
-pub fn close_singles(
+/// A split for the line of each share, and a leaf of these shares over them.
+fn tree_of_shares(
+    alloc: Global,
+    singles: &[Choice],
+    shares: &[Share],
+) -> Result<List<Node>, AllocError>
+    requires { length shares.now < 4000000000 }
+    ensures { IfOk result (λ tree. tree ≡ splits_of (lines_of_shares singles.now shares.now) ++ Node.Leaf (LeafProof.Num (shares_in_order 0 shares.now)) ∷ []) }
+{
+    let mut tree = List::new(alloc);
+    let mut ordered = List::new(alloc);
+    for (at, share) in shares.iter().enumerate() {
+        tree.push(Node::Split {
+            line: line_of(singles, share.lit),
+        })?;
+        ordered.push(Share {
+            lit: at as u32 + 1,
+            times: share.times,
+        })?;
+    }
+    tree.push(Node::Leaf(LeafProof::Num(ordered)))?;
+    Ok(tree)
+}
+
+/// The closed tree of a leaf over the literals of lines of one literal. One that is too long for its numbers is left to
+/// the search.
+fn tree_of(
     alloc: Global,
     g: &Ground,
-    singles: &[Single],
+    singles: &[Choice],
+    proof: &LeafProof,
 ) -> Result<Option<List<Node>>, AllocError>
-    requires singles { AreSinglesOf (sorts g.now.names) g.now.lines singles.now }
-    requires lines { length g.now.lines ≤ 50000 }
+    requires singles { AreSinglesOf g.now.lines singles.now }
+    requires valid { IsValid (place_lits g.now.lines singles.now) proof.now }
     ensures { IfOk result (λ closed. IfSome closed (λ tree. IsClosed g.now.lines tree)) }
 {
-    let rows = with_singles(alloc, &[], singles)?;
-    match decide_rows(alloc, g, &rows)? {
-        RowAnswer::Values(_) => Ok(None),
-        RowAnswer::Cycle(steps) => {
-            if steps.len() > 50_000 {
+    match proof {
+        LeafProof::Idx(steps) => {
+            if steps.len() >= 4_000_000_000 {
                 return Ok(None);
             }
-            Ok(Some(tree_of(alloc, singles, steps.as_slice())?))
+            Ok(Some(tree_of_steps(alloc, singles, steps.as_slice())?))
         }
+        LeafProof::Num(shares) => {
+            if shares.len() >= 4_000_000_000 {
+                return Ok(None);
+            }
+            Ok(Some(tree_of_shares(alloc, singles, shares.as_slice())?))
+        }
+        LeafProof::Ptr { .. } => Ok(None),
     }
 }
 
-/// The lines of one literal whose rows stand after the first `own` and are named by the steps. Only the order in which
+/// A closed tree over lines of one literal alone, where they can't all be true and this shows quickly.
+pub fn close_singles(
+    alloc: Global,
+    g: &Ground,
+    singles: &[Choice],
+) -> Result<Option<List<Node>>, AllocError>
+    requires built { All (λ line. AreBuilt (sorts g.now.names) line.lits) g.now.lines }
+    requires singles { AreSinglesOf g.now.lines singles.now }
+    requires lines { length g.now.lines ≤ 50000 }
+    ensures { IfOk result (λ closed. IfSome closed (λ tree. IsClosed g.now.lines tree)) }
+{
+    let lits = lits_of(alloc, g, singles)?;
+    match decide_quickly(alloc, &g.names, lits.as_slice())? {
+        Quick::Values(_) => Ok(None),
+        Quick::Unknown => Ok(None),
+        Quick::Leaf(proof) => tree_of(alloc, g, singles, &proof),
+    }
+}
+
+/// Appends the line of the literal of this number, where it is one of those after the first `own`.
+fn push_suspect(
+    singles: &[Choice],
+    own: usize,
+    number: u32,
+    lines: &mut List<u32>,
+) -> Result<(), AllocError> {
+    let number = number as usize;
+    if number > own {
+        match singles.get(number - own - 1) {
+            Some(single) => lines.push(single.line)?,
+            None => {}
+        }
+    }
+    Ok(())
+}
+
+/// The lines of one literal whose literals stand after the first `own` and are named by the leaf. Only the order in which
 /// lines are split hangs on them.
 pub fn suspects(
     alloc: Global,
-    singles: &[Single],
+    singles: &[Choice],
     own: usize,
-    steps: &[Step],
+    proof: &LeafProof,
 ) -> Result<List<u32>, AllocError> {
     let mut lines = List::new(alloc);
-    for step in steps {
-        let number = step.lit as usize;
-        if number > own {
-            match singles.get(number - own - 1) {
-                Some(single) => lines.push(single.line)?,
-                None => {}
+    match proof {
+        LeafProof::Idx(steps) => {
+            for step in steps.as_slice() {
+                push_suspect(singles, own, step.lit, &mut lines)?;
             }
         }
+        LeafProof::Num(shares) => {
+            for share in shares.as_slice() {
+                push_suspect(singles, own, share.lit, &mut lines)?;
+            }
+        }
+        LeafProof::Ptr { .. } => {}
     }
     Ok(lines)
 }

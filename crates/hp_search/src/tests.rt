@@ -1,16 +1,24 @@
 //! What `search` answers with ample memory to lines whose answers are known by hand.
-ghost use Rattle.std.specs.Prelude.{◌≡◌, ◌≤◌, IfSome, length, true};
+ghost use Rattle.std.specs.Prelude.{◌≡◌, ◌+◌, ◌≤◌, OnOk, Some, [], length, slice_get, true};
 ghost use Rattle.std.specs.List.{All};
+ghost use Rattle.hp_ast.specs.declared.problem.Sort.TheVariants.{Num};
 ghost use Rattle.hp_base.specs.Names.{sorts};
-ghost use Rattle.hp_search.specs.Rows.{AreRows, IsIdxSide, IsRow, IsRowOver};
+ghost use Rattle.hp_path.specs.Built.{IsBuilt, IsIdxSide, IsNumOver, IsRowOver};
+ghost use Rattle.hp_search.specs.Lines.{AreBuilt};
 
-use crate::{Found, search};
+use crate::{Found, SearchErr, Solution, search};
 use hp_ast::Sort;
-use hp_base::{Ground, IdxLit, Line, Lit, Name, Names, Origin};
+use hp_base::{Choice, Ground, IdxLit, Line, Lit, Name, Names, NumLit, Origin, Part, Rel};
+use hp_descent::{At, Form, Place, are_fit};
 use hp_num::{List, Text};
 use std::alloc::{AllocError, Global};
+use std::slice;
+use std::test::Fail;
 
 const LARGEST: i128 = 10_000_000_000_000_000_000_000_000;
+
+/// 2^100, whose square passes 128 bits.
+const LONG: i128 = 1_267_650_600_228_229_401_496_703_205_376;
 
 /// What was answered, with the number of nodes of a tree.
 #[derive(Clone, Copy, Debug, PartialEq, Eq)]
@@ -18,13 +26,31 @@ enum Answer {
     Model,
     Closed(usize),
     Spent(usize),
+    Strain,
     Unasked,
     NoMemory,
+}
+
+/// A literal over whole numbers, or one over the fractions c and d with their coefficients and a bound.
+#[derive(Clone, Copy)]
+enum Side {
+    Idx(IdxLit),
+    Num {
+        rel: Rel,
+        c: i128,
+        d: i128,
+        bound: i128,
+    },
 }
 
 const I: Option<Name> = Some(Name(0));
 
 const J: Option<Name> = Some(Name(1));
+
+/// The names of sort num, which follow those of sort idx.
+const C: u32 = 2;
+
+const D: u32 = 3;
 
 fn at_most(left: Option<Name>, right: Option<Name>, bound: i128) -> IdxLit {
     IdxLit {
@@ -44,6 +70,10 @@ fn equal(left: Option<Name>, bound: i128) -> IdxLit {
     }
 }
 
+fn num(rel: Rel, c: i128, d: i128, bound: i128) -> Side {
+    Side::Num { rel, c, d, bound }
+}
+
 fn is_idx_side(names: &Names, side: Option<Name>) -> bool
     ensures { result ≡ true → IsIdxSide (sorts names.now) side }
 {
@@ -53,26 +83,47 @@ fn is_idx_side(names: &Names, side: Option<Name>) -> bool
     }
 }
 
-fn is_row(names: &Names, lit: &Lit) -> bool
-    ensures { result ≡ true → IsRow (sorts names.now) lit.now }
+fn is_row(names: &Names, row: IdxLit) -> bool
+    ensures { result ≡ true → IsRowOver (sorts names.now) row }
+{
+    -LARGEST <= row.bound
+        && row.bound <= LARGEST
+        && is_idx_side(names, row.left)
+        && is_idx_side(names, row.right)
+}
+
+fn are_num(names: &Names, parts: &[Part]) -> bool
+    ensures { result ≡ true → All (λ part. slice_get (sorts names.now) part.name.0 ≡ Some Num) parts.now }
+{
+    for part in parts {
+        if part.name.0 as u64 >= names.count() || names.sort(part.name) != Sort::Num {
+            return false;
+        }
+    }
+    true
+}
+
+fn is_num(names: &Names, num: &NumLit) -> bool
+    ensures { result ≡ true → IsNumOver (sorts names.now) num.now }
+{
+    are_fit(slice::from_ref(num)) && are_num(names, num.parts.as_slice())
+}
+
+fn is_built(names: &Names, lit: &Lit) -> bool
+    ensures { result ≡ true → IsBuilt (sorts names.now) lit.now }
 {
     match lit {
-        Lit::Idx(row) => {
-            -LARGEST <= row.bound
-                && row.bound <= LARGEST
-                && is_idx_side(names, row.left)
-                && is_idx_side(names, row.right)
-        }
-        Lit::Num(_) => false,
+        Lit::Idx(row) => is_row(names, *row),
+        Lit::Num(num) => is_num(names, num),
         Lit::Ptr(_) => false,
     }
 }
 
-fn are_rows(names: &Names, lits: &[Lit]) -> bool
-    ensures { result ≡ true → AreRows (sorts names.now) lits.now }
+fn are_built(names: &Names, lits: &[Lit]) -> bool
+    ensures { result ≡ true → AreBuilt (sorts names.now) lits.now }
 {
     for lit in lits {
-        if !is_row(names, lit) {
+        if !is_built(names, lit) {
             return false;
         }
     }
@@ -80,30 +131,66 @@ fn are_rows(names: &Names, lits: &[Lit]) -> bool
 }
 
 fn are_lines(names: &Names, lines: &[Line]) -> bool
-    ensures { result ≡ true → All (λ line. AreRows (sorts names.now) line.lits) lines.now }
+    ensures { result ≡ true → All (λ line. AreBuilt (sorts names.now) line.lits) lines.now }
 {
     for line in lines {
-        if !are_rows(names, line.lits.as_slice()) {
+        if !are_built(names, line.lits.as_slice()) {
             return false;
         }
     }
     true
 }
 
-fn names(alloc: Global, count: u32) -> Result<Names, AllocError>
-    requires { count ≤ 4000 }
+fn add(alloc: Global, names: &mut Names, sort: Sort, count: u32) -> Result<(), AllocError>
+    requires few { length names.old.constants + count ≤ 4000 }
+    requires before { names.old.definitions ≡ [] }
+    ensures before { OnOk result (names.new.definitions ≡ []) }
+    ensures more { OnOk result (length names.new.constants ≡ length names.old.constants + count) }
 {
-    let mut names = Names::new(alloc);
     for _at in 0..count {
-        names.add_constant(Text::new(alloc), Sort::Idx)?;
+        names.add_constant(Text::new(alloc), sort)?;
     }
-    Ok(names)
+    Ok(())
 }
 
-fn push_line(alloc: Global, lines: &mut List<Line>, rows: &[IdxLit]) -> Result<(), AllocError> {
+fn problem(alloc: Global, idx: u32, num: u32) -> Result<Ground, AllocError>
+    requires { idx + num ≤ 4000 }
+{
+    let mut names = Names::new(alloc);
+    add(alloc, &mut names, Sort::Idx, idx)?;
+    add(alloc, &mut names, Sort::Num, num)?;
+    Ok(Ground {
+        names,
+        lines: List::new(alloc),
+    })
+}
+
+fn push_part(parts: &mut List<Part>, name: u32, coef: i128) -> Result<(), AllocError> {
+    if coef != 0 {
+        parts.push(Part {
+            name: Name(name),
+            coef,
+        })?;
+    }
+    Ok(())
+}
+
+fn literal(alloc: Global, side: Side) -> Result<Lit, AllocError> {
+    match side {
+        Side::Idx(row) => Ok(Lit::Idx(row)),
+        Side::Num { rel, c, d, bound } => {
+            let mut parts = List::new(alloc);
+            push_part(&mut parts, C, c)?;
+            push_part(&mut parts, D, d)?;
+            Ok(Lit::Num(NumLit { rel, parts, bound }))
+        }
+    }
+}
+
+fn push_line(alloc: Global, lines: &mut List<Line>, sides: &[Side]) -> Result<(), AllocError> {
     let mut lits = List::new(alloc);
-    for row in rows {
-        lits.push(Lit::Idx(*row))?;
+    for side in sides {
+        lits.push(literal(alloc, *side)?)?;
     }
     lines.push(Line {
         lits,
@@ -111,90 +198,138 @@ fn push_line(alloc: Global, lines: &mut List<Line>, rows: &[IdxLit]) -> Result<(
     })
 }
 
-fn asked(alloc: Global, g: &Ground, most: u64) -> Answer {
+/// What is answered, or nothing where the problem isn't one to ask.
+fn found(alloc: Global, g: &Ground, most: u64, exact: bool) -> Option<Result<Found, SearchErr>> {
     if most == 0 || g.lines.len() > 50_000 || !are_lines(&g.names, g.lines.as_slice()) {
-        return Answer::Unasked;
+        return None;
     }
-    match search(alloc, g, most) {
-        Ok(Found::Model(_)) => Answer::Model,
-        Ok(Found::Closed(tree)) => Answer::Closed(tree.len()),
-        Ok(Found::Spent(tree)) => Answer::Spent(tree.len()),
-        Err(_) => Answer::NoMemory,
+    Some(search(alloc, g, most, exact))
+}
+
+fn answer_of(found: Option<Result<Found, SearchErr>>) -> Answer {
+    match found {
+        None => Answer::Unasked,
+        Some(Ok(Found::Model(_))) => Answer::Model,
+        Some(Ok(Found::Closed(tree))) => Answer::Closed(tree.len()),
+        Some(Ok(Found::Spent(tree))) => Answer::Spent(tree.len()),
+        Some(Err(SearchErr::Strain(_))) => Answer::Strain,
+        Some(Err(SearchErr::Memory)) => Answer::NoMemory,
     }
 }
 
-/// What is answered to lines of `counts` literals, which stand one after another.
-fn seen(alloc: Global, rows: &[IdxLit], counts: &[usize], most: u64) -> Result<Answer, AllocError> {
-    let mut g = Ground {
-        names: names(alloc, 2)?,
-        lines: List::new(alloc),
-    };
-    let mut rest = rows;
+/// Lines of `counts` literals, which stand one after another, over two names of each sort.
+fn lines_of(alloc: Global, sides: &[Side], counts: &[usize]) -> Result<Ground, AllocError> {
+    let mut g = problem(alloc, 2, 2)?;
+    let mut rest = sides;
     for count in counts {
         let (line, later) = rest.split_at(rest.len().min(*count));
         push_line(alloc, &mut g.lines, line)?;
         rest = later;
     }
-    Ok(asked(alloc, &g, most))
+    Ok(g)
+}
+
+fn seen(
+    alloc: Global,
+    sides: &[Side],
+    counts: &[usize],
+    most: u64,
+    exact: bool,
+) -> Result<Answer, AllocError> {
+    let g = lines_of(alloc, sides, counts)?;
+    Ok(answer_of(found(alloc, &g, most, exact)))
 }
 
 /// Lines of one literal that lead from each of `count` names down to the next one, and from the last to the first.
 fn around(alloc: Global, count: u32, last: i128) -> Result<Answer, AllocError>
     requires { count ≤ 4000 }
 {
-    let mut g = Ground {
-        names: names(alloc, count)?,
-        lines: List::new(alloc),
-    };
+    let mut g = problem(alloc, count, 0)?;
     for at in 1..count {
-        push_line(
-            alloc,
-            &mut g.lines,
-            &[at_most(Some(Name(at)), Some(Name(at - 1)), -1)],
-        )?;
+        let below = at_most(Some(Name(at)), Some(Name(at - 1)), -1);
+        push_line(alloc, &mut g.lines, &[Side::Idx(below)])?;
     }
-    push_line(
-        alloc,
-        &mut g.lines,
-        &[at_most(I, Some(Name(count.saturating_sub(1))), last)],
-    )?;
-    Ok(asked(alloc, &g, 1))
+    let back = at_most(I, Some(Name(count.saturating_sub(1))), last);
+    push_line(alloc, &mut g.lines, &[Side::Idx(back)])?;
+    Ok(answer_of(found(alloc, &g, 1, false)))
+}
+
+/// The choices of the path, the rows of the chain, and the numerator and denominator of each value.
+fn numbers_of(alloc: Global, solution: &Solution) -> Result<List<i128>, AllocError> {
+    let mut numbers = List::new(alloc);
+    for choice in solution.path.as_slice() {
+        numbers.push(choice.line as i128)?;
+        numbers.push(choice.lit as i128)?;
+    }
+    if let Some(chain) = &solution.chain {
+        for row in chain.as_slice() {
+            numbers.push(*row as i128)?;
+        }
+    }
+    for value in solution.values.values.as_slice() {
+        numbers.push(value.num())?;
+        numbers.push(value.den())?;
+    }
+    Ok(numbers)
+}
+
+fn model_numbers(
+    alloc: Global,
+    sides: &[Side],
+    counts: &[usize],
+) -> Result<List<i128>, AllocError> {
+    let g = lines_of(alloc, sides, counts)?;
+    match found(alloc, &g, 10, true) {
+        Some(Ok(Found::Model(solution))) => numbers_of(alloc, &solution),
+        _ => Ok(List::new(alloc)),
+    }
+}
+
+/// Whether the answer is a strain of the sum of the only literal of this line, over the path that chose line 1.
+fn is_strain_at(found: &Option<Result<Found, SearchErr>>, line: u32) -> bool {
+    match found {
+        Some(Err(SearchErr::Strain(strain))) => {
+            is_first_choice(&strain.place)
+                && strain.row.form == Form::Sum
+                && strain.row.at == At::Literal { line, lit: 1 }
+        }
+        _ => false,
+    }
+}
+
+fn is_first_choice(place: &Place) -> bool {
+    match place {
+        Place::Path(path) => path.len() == 1 && *path.get(0) == Choice { line: 1, lit: 1 },
+    }
 }
 
 #[test]
 fn known_answers(rt: HostRuntime) {
-    let low = at_most(I, None, 0);
-    let five = equal(I, 5);
-    let three = equal(I, 3);
-    let below = at_most(J, I, -1);
-    let cases: [(&[IdxLit], &[usize], u64, Answer); 9] = [
+    let low = Side::Idx(at_most(I, None, 0));
+    let five = Side::Idx(equal(I, 5));
+    let three = Side::Idx(equal(I, 3));
+    let below = Side::Idx(at_most(J, I, -1));
+    let four_up = Side::Idx(at_most(None, J, -4));
+    let five_up = Side::Idx(at_most(None, J, -5));
+    let above_three = Side::Idx(at_most(None, I, -4));
+    let cases: [(&[Side], &[usize], u64, Answer); 9] = [
         (&[], &[], 1, Answer::Model),
         (&[], &[0], 1, Answer::Closed(1)),
         (&[three], &[1, 0], 1, Answer::Closed(1)),
         (&[low, five], &[2], 9, Answer::Model),
         (&[low, five, three], &[2, 1], 5, Answer::Closed(5)),
         (&[low, five, three], &[2, 1], 1, Answer::Spent(3)),
+        (&[three, above_three], &[1, 1], 1, Answer::Closed(3)),
         (
-            &[three, at_most(None, I, -4)],
-            &[1, 1],
-            1,
-            Answer::Closed(3),
-        ),
-        (
-            &[low, five, below, at_most(None, J, -5)],
+            &[low, five, below, five_up],
             &[2, 1, 1],
             9,
             Answer::Closed(7),
         ),
-        (
-            &[low, five, below, at_most(None, J, -4)],
-            &[2, 1, 1],
-            9,
-            Answer::Model,
-        ),
+        (&[low, five, below, four_up], &[2, 1, 1], 9, Answer::Model),
     ];
-    for (rows, counts, most, want) in cases {
-        assert_eq!(rt; seen(rt.alloc(), rows, counts, most), Ok(want));
+    for (sides, counts, most, want) in cases {
+        assert_eq!(rt; seen(rt.alloc(), sides, counts, most, false), Ok(want));
     }
 }
 
@@ -202,4 +337,49 @@ fn known_answers(rt: HostRuntime) {
 fn many_lines_of_one_literal(rt: HostRuntime) {
     assert_eq!(rt; around(rt.alloc(), 1_900, 1_899), Ok(Answer::Model));
     assert_eq!(rt; around(rt.alloc(), 1_900, 1_898), Ok(Answer::Closed(1_901)));
+}
+
+#[test]
+fn literals_of_both_sorts(rt: HostRuntime) {
+    let small = Side::Idx(at_most(I, None, 3));
+    let five = Side::Idx(equal(I, 5));
+    let below = num(Rel::Lt, 1, -1, 0);
+    let above = num(Rel::Le, -1, 1, 0);
+    let cases: [(&[Side], &[usize], bool, Answer); 5] = [
+        (&[below], &[1], false, Answer::Model),
+        (&[below, above], &[1, 1], false, Answer::Closed(3)),
+        (&[small, below, five], &[2, 1], false, Answer::Model),
+        (&[small, below, five], &[2, 1], true, Answer::Model),
+        (
+            &[small, below, five, above],
+            &[2, 1, 1],
+            false,
+            Answer::Closed(5),
+        ),
+    ];
+    for (sides, counts, exact, want) in cases {
+        assert_eq!(rt; seen(rt.alloc(), sides, counts, 10, exact), Ok(want));
+    }
+}
+
+#[test]
+fn an_exact_model_has_its_chain(rt: HostRuntime) -> Result<(), Fail> {
+    // c - d < 0 is false at 0, and is split: path 1.1, chain 2 and 1, i = 0, j = 0, c = -1, d = 0
+    let below = num(Rel::Lt, 1, -1, 0);
+    let numbers = model_numbers(rt.alloc(), &[below], &[1])?;
+    assert_eq!(rt;
+        numbers.as_slice(),
+        [1, 1, 2, 1, 0, 1, 0, 1, -1, 1, 0, 1].as_slice()
+    );
+    Ok(())
+}
+
+#[test]
+fn a_sum_that_is_too_wide(rt: HostRuntime) -> Result<(), Fail> {
+    // c = 2^100 makes the first line true, and there -2^100 c passes 128 bits
+    let high = num(Rel::Eq, 1, 0, LONG);
+    let product = num(Rel::Lt, -LONG, 0, 0);
+    let g = lines_of(rt.alloc(), &[high, product], &[1, 1])?;
+    assert!(rt; is_strain_at(&found(rt.alloc(), &g, 10, true), 2));
+    Ok(())
 }

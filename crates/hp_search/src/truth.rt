@@ -1,13 +1,39 @@
-//! Truth of lines at values of names. The values and the bounds are small, so no difference passes 128 bits.
-ghost use Rattle.std.specs.Prelude.{◌≡◌, ◌≤◌, IfSome, IfNone, IsSome, length, true, false};
+//! Whether lines are true at values, and the choice of a line that is false.
+ghost use Rattle.std.specs.Prelude.{◌≡◌, ◌+◌, ◌≤◌, IfOk, IsSome, Ok, length, true, false};
 ghost use Rattle.std.specs.List.{All};
 ghost use Rattle.hp_math.specs.Rational.{whole};
-ghost use Rattle.hp_base.specs.Truth.{optional_value, IdxIsTrue, LineIsTrue};
-ghost use Rattle.hp_base.specs.Names.{sorts};
+ghost use Rattle.hp_base.specs.Truth.{IdxIsTrue, LineIsTrue, optional_value};
 ghost use Rattle.hp_diff.specs.Rows.{IsSmallWhole};
-ghost use Rattle.hp_search.specs.Rows.{AreRows, IsFalseLine, IsIdx, IsSmallIndex, Keeps};
+ghost use Rattle.hp_search.specs.Lines.{AreReadable, HasSmallSides, IsFalseLine, IsReadable, IsSmallIndex, Judges, JudgesLine, JudgesLit, Keeps};
 
-use hp_base::{Ground, IdxLit, Line, Lit, Name, Valuation};
+use hp_base::{Choice, Ground, IdxLit, Line, Lit, Name, Valuation};
+use hp_descent::holds;
+use hp_num::Wide;
+use std::alloc::AllocError;
+
+/// What values make of all lines: each is true; this one is false; or the sum of a literal is too wide.
+#[derive(Clone, Copy)]
+pub enum Verdict {
+    AllTrue,
+    False(u32),
+    Wide { choice: Choice, wide: Wide },
+}
+
+/// What values make of a literal.
+#[derive(Clone, Copy)]
+enum LitTruth {
+    True,
+    False,
+    Wide(Wide),
+}
+
+/// What values make of a line. The literal whose sum is too wide counts from 1.
+#[derive(Clone, Copy)]
+enum LineTruth {
+    True,
+    False,
+    Wide { lit: u32, wide: Wide },
+}
 
 /// A line that some values leave false, with the number of its literals.
 #[derive(Clone, Copy)]
@@ -16,9 +42,16 @@ struct Candidate {
     count: usize,
 }
 
+/// A literal whose sum is too wide.
+#[derive(Clone, Copy)]
+struct WideSum {
+    choice: Choice,
+    wide: Wide,
+}
+
 /// The value of an index name, 0 for none.
 fn index_value(v: &Valuation, name: Option<Name>) -> i128
-    requires { All IsSmallWhole v.now.values }
+    requires { IsSmallWhole (optional_value v.now.values name) }
     ensures value { optional_value v.now.values name ≡ whole result }
     ensures small { IsSmallIndex result }
 {
@@ -48,7 +81,7 @@ fn keeps(row: IdxLit, left: i128, right: i128) -> bool
 
 /// Whether a row is true.
 fn row_holds(v: &Valuation, row: IdxLit) -> bool
-    requires values { All IsSmallWhole v.now.values }
+    requires values { HasSmallSides v.now.values row }
     ensures yes { result ≡ true → IdxIsTrue v.now.values row }
     ensures no { result ≡ false → IdxIsTrue v.now.values row → ⊥ }
 {
@@ -57,38 +90,73 @@ fn row_holds(v: &Valuation, row: IdxLit) -> bool
     keeps(row, left, right)
 }
 
-/// Whether one of the literals of a line is true.
-fn line_holds(v: &Valuation, line: &Line) -> bool
-    requires values { All IsSmallWhole v.now.values }
-    requires rows { All IsIdx line.now.lits }
-    ensures yes { result ≡ true → LineIsTrue v.now.values line.now.lits }
-    ensures no { result ≡ false → LineIsTrue v.now.values line.now.lits → ⊥ }
+/// Whether a literal is true.
+fn lit_truth(v: &Valuation, lit: &Lit) -> LitTruth
+    requires { IsReadable v.now.values lit.now }
+    ensures { JudgesLit v.now.values lit.now result }
 {
-    for lit in line.lits.as_slice() {
-        match lit {
-            Lit::Idx(row) => {
-                if row_holds(v, *row) {
-                    return true;
-                }
+    match lit {
+        Lit::Idx(row) => {
+            if row_holds(v, *row) {
+                LitTruth::True
+            } else {
+                LitTruth::False
             }
-            Lit::Num(_) => {}
-            Lit::Ptr(_) => {}
+        }
+        Lit::Num(num) => match holds(v, num) {
+            Ok(true) => LitTruth::True,
+            Ok(false) => LitTruth::False,
+            Err(wide) => LitTruth::Wide(wide),
+        },
+        Lit::Ptr(_) => LitTruth::False,
+    }
+}
+
+/// The number, counted from 1, of the literal at this index of a line. `Err` where it has more than 32 bits.
+fn number_of(at: usize) -> Result<u32, AllocError>
+    ensures { IfOk result (λ number. number ≡ at + 1) }
+{
+    if at < 4_294_967_295 {
+        Ok(at as u32 + 1)
+    } else {
+        Err(AllocError)
+    }
+}
+
+/// Whether one of the literals of a line is true. A sum that is too wide is told only where none is true. `Err` where the
+/// number of its literal has more than 32 bits.
+fn line_truth(v: &Valuation, line: &Line) -> Result<LineTruth, AllocError>
+    requires { All (IsReadable v.now.values) line.now.lits }
+    ensures { IfOk result (JudgesLine v.now.values line.now.lits) }
+{
+    let mut truth = LineTruth::False;
+    for (at, lit) in line.lits.as_slice().iter().enumerate() {
+        match lit_truth(v, lit) {
+            LitTruth::True => return Ok(LineTruth::True),
+            LitTruth::False => {}
+            LitTruth::Wide(wide) => {
+                let lit = number_of(at)?;
+                truth = LineTruth::Wide { lit, wide };
+            }
         }
     }
-    false
+    Ok(truth)
 }
 
 /// Whether a line of this number, counted from 1, is there and false.
-fn is_false(g: &Ground, v: &Valuation, number: u32) -> bool
-    requires values { All IsSmallWhole v.now.values }
-    requires rows { All (λ line. AreRows (sorts g.now.names) line.lits) g.now.lines }
-    ensures { result ≡ true → IsFalseLine g.now.lines v.now.values number }
+fn is_false(g: &Ground, v: &Valuation, number: u32) -> Result<bool, AllocError>
+    requires { All (AreReadable v.now.values) g.now.lines }
+    ensures { result ≡ Ok true → IsFalseLine g.now.lines v.now.values number }
 {
     let number = number as usize;
     if number == 0 || g.lines.len() < number {
-        return false;
+        return Ok(false);
     }
-    !line_holds(v, g.lines.get(number - 1))
+    match line_truth(v, g.lines.get(number - 1))? {
+        LineTruth::False => Ok(true),
+        LineTruth::True => Ok(false),
+        LineTruth::Wide { .. } => Ok(false),
+    }
 }
 
 /// Whether a line has fewer literals than the best so far.
@@ -101,40 +169,60 @@ fn is_shorter(line: &Line, best: Option<Candidate>) -> bool
     }
 }
 
-/// The first of the shortest lines that the values leave false.
-fn shortest_false(g: &Ground, v: &Valuation) -> Option<u32>
-    requires values { All IsSmallWhole v.now.values }
-    requires rows { All (λ line. AreRows (sorts g.now.names) line.lits) g.now.lines }
+/// The first of the shortest lines that the values leave false. A sum that is too wide is told only where no line is false.
+fn shortest_false(g: &Ground, v: &Valuation) -> Result<Verdict, AllocError>
+    requires readable { All (AreReadable v.now.values) g.now.lines }
     requires lines { length g.now.lines ≤ 50000 }
-    ensures some { IfSome result (λ n. IsFalseLine g.now.lines v.now.values n) }
-    ensures none { IfNone result (All (λ line. LineIsTrue v.now.values line.lits) g.now.lines) }
+    ensures { IfOk result (Judges g.now.lines v.now.values) }
 {
     let mut best: Option<Candidate> = None;
+    let mut wide_sum: Option<WideSum> = None;
     for (at, line) in g.lines.as_slice().iter().enumerate() {
-        if is_shorter(line, best) && !line_holds(v, line) {
-            best = Some(Candidate {
-                line: at as u32 + 1,
-                count: line.lits.len(),
-            });
+        if is_shorter(line, best) {
+            let number = at as u32 + 1;
+            match line_truth(v, line)? {
+                LineTruth::True => {}
+                LineTruth::False => {
+                    best = Some(Candidate {
+                        line: number,
+                        count: line.lits.len(),
+                    });
+                }
+                LineTruth::Wide { lit, wide } => {
+                    let choice = Choice { line: number, lit };
+                    wide_sum = Some(WideSum { choice, wide });
+                }
+            }
         }
     }
+    Ok(verdict_of(best, wide_sum))
+}
+
+/// The verdict of a line that is false and of a sum that is too wide, the first of which counts.
+fn verdict_of(best: Option<Candidate>, wide_sum: Option<WideSum>) -> Verdict
+    ensures { result ≡ Rattle.hp_search.specs.Lines.verdict_of best wide_sum }
+{
     match best {
-        None => None,
-        Some(best) => Some(best.line),
+        Some(best) => Verdict::False(best.line),
+        None => match wide_sum {
+            Some(sum) => Verdict::Wide {
+                choice: sum.choice,
+                wide: sum.wide,
+            },
+            None => Verdict::AllTrue,
+        },
     }
 }
 
 /// A line that the values leave false: one of the suspects where there is such, and else one of the shortest.
-pub fn first_false(g: &Ground, v: &Valuation, suspects: &[u32]) -> Option<u32>
-    requires values { All IsSmallWhole v.now.values }
-    requires rows { All (λ line. AreRows (sorts g.now.names) line.lits) g.now.lines }
+pub fn first_false(g: &Ground, v: &Valuation, suspects: &[u32]) -> Result<Verdict, AllocError>
+    requires readable { All (AreReadable v.now.values) g.now.lines }
     requires lines { length g.now.lines ≤ 50000 }
-    ensures some { IfSome result (λ n. IsFalseLine g.now.lines v.now.values n) }
-    ensures none { IfNone result (All (λ line. LineIsTrue v.now.values line.lits) g.now.lines) }
+    ensures { IfOk result (Judges g.now.lines v.now.values) }
 {
     for number in suspects {
-        if is_false(g, v, *number) {
-            return Some(*number);
+        if is_false(g, v, *number)? {
+            return Ok(Verdict::False(*number));
         }
     }
     shortest_false(g, v)

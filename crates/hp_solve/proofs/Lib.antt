@@ -1,4 +1,5 @@
 pub mod Rows
 pub mod Splits
+pub mod Scope
 pub mod Structures
 pub mod Verdicts

@@ -11,8 +11,10 @@ use Rattle.hp_base.specs.Names.{constant_name, constant_sort, sort_of_definition
 use Rattle.hp_base.specs.Sorts.{AreOfSorts}
 use Rattle.hp_base.specs.Truth.{Values}
 use Rattle.hp_model.specs.declared.structure.ConstValue.{ConstValue}
-use Rattle.hp_norm.specs.Ground.{IsGroundOf, declared, index_constant}
-use Rattle.hp_norm.specs.Laws.{const_values}
+use Rattle.hp_model.specs.WellFormed.{Declared, constants}
+use Rattle.hp_ground.specs.Ground.{declared, declared_name}
+use Rattle.hp_ground.specs.Laws.{const_values}
+use Rattle.hp_ground.specs.Lines.{IsGroundOf, as_constant}
 
 pub one_more : (cs : List Constant) (v : Values) (i : ℕ) (d : Constant) (e : ℚ) → i < length cs → i < length v
     → const_values (map constant_name (take (i + 1) cs)) v ≡ const_values (map constant_name (take i cs)) v ++ record { name = (get_or cs i d).name; value = get_or v i e } ∷ []
@@ -36,10 +38,10 @@ count_of_values p g v is h =
     ∙ ap (λ (ss : List Sort). length ss) (append-nil (map constant_sort g.names.constants))
     ∙ length-map g.names.constants constant_sort
 
-names_of_constants : (names : List (List ℕ)) → map constant_name (map index_constant names) ≡ names
+names_of_constants : (ds : List Declared) → map constant_name (map as_constant ds) ≡ map declared_name ds
 names_of_constants [] = refl
-names_of_constants (n ∷ ns) = ap (λ (ms : List (List ℕ)). n ∷ ms) (names_of_constants ns)
+names_of_constants (d ∷ ds) = ap (λ (ms : List (List ℕ)). d.name ∷ ms) (names_of_constants ds)
 
 -- the names of the constants are those that are declared
 pub ground_names : (p : Problem) (g : Ground) → IsGroundOf p g → map constant_name g.names.constants ≡ declared p
-ground_names p g is = ap (map constant_name) is.constants ∙ names_of_constants (declared p)
+ground_names p g is = ap (map constant_name) is.constants ∙ names_of_constants (constants p.decls)

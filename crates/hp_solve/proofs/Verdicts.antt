@@ -10,9 +10,10 @@ use Rattle.hp_leaf.proofs.Closing as closing
 use Rattle.hp_model.specs.declared.structure.Structure.{Structure}
 use Rattle.hp_model.specs.Satisfies.{Satisfies}
 use Rattle.hp_search.specs.Search.{IsModelAt}
-use Rattle.hp_norm.specs.Ground.{IsGroundOf, declared}
-use Rattle.hp_norm.specs.Laws.{structure_of}
-use Rattle.hp_norm.proofs.Models.{structures_give_values, values_give_a_structure}
+use Rattle.hp_ground.specs.Ground.{declared}
+use Rattle.hp_ground.specs.Laws.{structure_of}
+use Rattle.hp_ground.specs.Lines.{IsGroundOf}
+use Rattle.hp_ground.proofs.Models.{structures_give_values, values_give_a_structure}
 use Rattle.hp_solve.specs.Solved.{IsInScope, IsSat}
 
 pub sat_from : (p : Problem) (g : Ground) (place : Place) (v : Valuation) (s : Structure) → IsGroundOf p g → IsInScope p

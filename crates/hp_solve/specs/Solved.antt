@@ -1,5 +1,5 @@
 -- What a verdict says of a problem.
-use Rattle.std.specs.Prelude.{◌≡◌, ℕ, ◌<◌, ◌≤◌, [], length}
+use Rattle.std.specs.Prelude.{◌≡◌, ℕ, ◌<◌, ◌≤◌, [], length, None}
 use Rattle.hp_ast.specs.declared.problem.Problem.{Problem}
 use Rattle.hp_base.specs.declared.names.Ground.{Ground}
 use Rattle.hp_base.specs.Names.{sorts}
@@ -9,14 +9,19 @@ use Rattle.hp_cert.specs.Entries.{AreSplitLines, all_defs}
 use Rattle.hp_cert.specs.Refutes.{Refutes}
 use Rattle.hp_model.specs.declared.structure.Structure.{Structure}
 use Rattle.hp_model.specs.Satisfies.{Satisfies}
-use Rattle.hp_norm.specs.Ground.{IsGroundOf, IsIndexProblem}
+use Rattle.hp_descent.specs.declared.answer.Strain.{Strain}
+use Rattle.hp_search.specs.Search.{IsHonestStrain}
+use Rattle.hp_ground.specs.Ground.{IsGroundProblem}
+use Rattle.hp_ground.specs.Lines.{IsGroundOf, first_wide}
+use Rattle.hp_ground.specs.Answers.{IsFirstWide}
 use Rattle.hp_solve.specs.declared.solving.Solved.{Solved}
-use Rattle.hp_solve.specs.declared.solving.Solved.TheVariants.{Sat, Unsat, Spent, Other, ManyNames, Memory}
+use Rattle.hp_solve.specs.declared.solving.Solved.TheVariants.{Sat, Unsat, Spent, Strained, Other, ManyNames, Wide, Memory}
 
--- a problem over index constants, at most 4,000 of them
+-- a problem over constants of sort idx and num, at most 4,000 of them, with no number too wide for its normal forms
 pub record IsInScope (p : Problem) : Type 0 where
-  pub index : IsIndexProblem p
+  pub problem : IsGroundProblem p
   pub names : length p.decls ≤ 4000
+  pub narrow : first_wide p ≡ None
 
 -- a structure satisfies the problem
 pub record IsSat (p : Problem) (s : Structure) : Type 0 where
@@ -41,10 +46,19 @@ pub record IsSpentOn (p : Problem) (most : ℕ) (r : Refutation) : Type 0 where
   pub defs : r.defs ≡ all_defs lines.names
   pub listed : AreSplitLines lines r.tree r.lines
 
+-- a number passes over the literals of an honest path through the ground lines
+pub record IsStrainedOn (p : Problem) (s : Strain) : Type 0 where
+  pub scope : IsInScope p
+  pub lines : Ground
+  pub ground : IsGroundOf p lines
+  pub strain : IsHonestStrain (sorts lines.names) lines.lines s
+
 abbrev pub SolvedAs : Problem → ℕ → Solved → Type 0
 SolvedAs p most (Sat s) = IsSat p s
 SolvedAs p most (Unsat r) = IsUnsat p r
 SolvedAs p most (Spent r) = IsSpentOn p most r
-SolvedAs p most Other = IsIndexProblem p → ⊥
-SolvedAs p most ManyNames = IsIndexProblem p × (4000 < length p.decls)
+SolvedAs p most (Strained s) = IsStrainedOn p s
+SolvedAs p most Other = IsGroundProblem p → ⊥
+SolvedAs p most ManyNames = IsGroundProblem p × (4000 < length p.decls)
+SolvedAs p most (Wide item) = IsFirstWide p item
 SolvedAs p most Memory = Unit {0}

@@ -1,20 +1,22 @@
 //! From a problem to its ground lines, from these to what a search finds, and from that to the evidence.
 
-ghost use Rattle.std.specs.Prelude.{◌≡◌, ◌<◌, ◌≤◌, ◌^◌, IfOk, length, map};
+ghost use Rattle.std.specs.Prelude.{◌≡◌, ◌<◌, ◌≤◌, ◌^◌, IfOk, false, ℕ, length, map};
 ghost use Rattle.hp_base.specs.Names.{constant_name, sorts};
-ghost use Rattle.hp_search.specs.Search.{IsFound};
-ghost use Rattle.hp_norm.specs.Ground.{IsGroundOf, IsLight};
-ghost use Rattle.hp_norm.specs.Laws.{structure_of};
+ghost use Rattle.hp_search.specs.Search.{IsCause, IsFound};
+ghost use Rattle.hp_ground.specs.Laws.{structure_of};
+ghost use Rattle.hp_ground.specs.Lines.{IsGroundOf};
+ghost use Rattle.hp_norm.specs.Literals.{IsLight};
 ghost use Rattle.hp_solve.specs.Solved.{IsInScope, SolvedAs};
 
 use hp_ast::Problem;
 use hp_base::{Constant, Ground, Valuation};
 use hp_cert::{Refutation, entries};
+use hp_descent::Strain;
+use hp_ground::{GroundRead, ground};
 use hp_leaf::Node;
 use hp_model::{ConstValue, Structure};
-use hp_norm::{GroundRead, ground};
 use hp_num::List;
-use hp_search::{Found, search};
+use hp_search::{Found, SearchErr, search};
 use std::alloc::{AllocError, Global};
 
 /// The verdict on a problem.
@@ -26,10 +28,15 @@ pub enum Solved {
     Unsat(Refutation),
     /// The tree of a search that came to its limit, and the lines that it splits.
     Spent(Refutation),
-    /// The problem is not one over index constants without variables.
+    /// A number passes 2^127 - 1 over the literals of an honest path of the search.
+    Strained(Strain),
+    /// The problem is not one over constants of sort idx and num, without functions and variables.
     Other,
-    /// The problem is one over index constants, of which it declares more than 4,000.
+    /// The problem is such a one, and declares more than 4,000 constants.
     ManyNames,
+    /// The problem is such a one, and a number of the normal form of an atom passes 2^127 - 1. The first clause with such an
+    /// atom is this item, counted from 1: the declarations come first, and then the clauses.
+    Wide(u32),
     /// Memory was wanting.
     Memory,
 }
@@ -61,7 +68,7 @@ fn structure(
 fn verdict(alloc: Global, p: &Problem, g: &Ground, most: u64, found: Found) -> Solved
     requires ground { IsGroundOf p.now g.now }
     requires scope { IsInScope p.now }
-    requires found { IsFound (sorts g.now.names) g.now.lines most found }
+    requires found { IsFound (sorts g.now.names) g.now.lines most false found }
     ensures { SolvedAs p.now most result }
 {
     match found {
@@ -82,10 +89,25 @@ fn verdict(alloc: Global, p: &Problem, g: &Ground, most: u64, found: Found) -> S
     }
 }
 
+/// What a search says that gave no answer.
+fn unfinished(p: &Problem, g: &Ground, error: SearchErr) -> Solved
+    requires ground { IsGroundOf p.now g.now }
+    requires scope { IsInScope p.now }
+    requires cause { IsCause (sorts g.now.names) g.now.lines error }
+    ensures { (most : ℕ) → SolvedAs p.now most result }
+{
+    match error {
+        SearchErr::Strain(strain) => Solved::Strained(strain),
+        SearchErr::Memory => Solved::Memory,
+    }
+}
+
 /// Decides a problem by a search with at most so many splits and leaves.
 ///
-/// `Other` comes exactly where the problem isn't one over index constants without variables, and `ManyNames` exactly
-/// where it is one with more than 4,000 constants. Every other problem has a verdict, unless memory is wanting.
+/// `Other` comes exactly where the problem isn't one over constants of sort idx and num without functions and variables,
+/// `ManyNames` exactly where it is one with more than 4,000 constants, and `Wide` exactly where it is one with at most as
+/// many and a number of a normal form is too wide. Every other problem has a verdict or a strain, unless memory is
+/// wanting.
 ///
 /// It asks for at least one split or leaf, fewer than 2^28 declarations, at most 2,000 clauses, and a light problem: the
 /// numerators of each atom add up to less than 10^25.
@@ -97,13 +119,13 @@ pub fn solve(alloc: Global, p: &Problem, most: u64) -> Solved
     ensures { SolvedAs p.now most result }
 {
     match ground(alloc, p) {
-        // No number of a light problem is too wide for its lines.
-        GroundRead::Other | GroundRead::Wide => Solved::Other,
+        GroundRead::Other => Solved::Other,
         GroundRead::ManyNames => Solved::ManyNames,
+        GroundRead::Wide(item) => Solved::Wide(item),
         GroundRead::Memory => Solved::Memory,
-        GroundRead::Read(g) => match search(alloc, &g, most) {
+        GroundRead::Read(g) => match search(alloc, &g, most, false) {
             Ok(found) => verdict(alloc, p, &g, most, found),
-            Err(_) => Solved::Memory,
+            Err(error) => unfinished(p, &g, error),
         },
     }
 }

@@ -1,5 +1,5 @@
 use Rattle.std.proofs.Common.{◌<◌, arith}
-use Rattle.hp_cli.proofs.Decisions.{few_items, in_scope, is_light, no_idx_problem, too_many_names}
+use Rattle.hp_cli.proofs.Decisions.{few_items, in_scope, is_light, no_const_problem, too_many_names, too_wide}
 use Rattle.hp_cli.proofs.deciding.settle.Goals as goal
 
 pub solve-requires-clause-declarations : goal.solve-requires-clause-declarations
@@ -12,12 +12,26 @@ pub returns-in_ok-not_built-in-Other : goal.returns-in_ok-not_built-in-Other
 returns-in_ok-not_built-in-Other c = record {
   problem = c.args.problem.now;
   counted = c.requires.counted;
-  other = no_idx_problem c.args.bytes.now c.args.problem.now c.requires.counted c.in-Other.ensures;
+  other = no_const_problem c.args.bytes.now c.args.problem.now c.requires.counted c.in-Other.ensures;
   written = c.in_ok-not_built-in-Other.ensures;
 }
 
 pub returns-in-ManyNames : goal.returns-in-ManyNames
 returns-in-ManyNames c = too_many_names c.args.most c.args.bytes.now c.args.problem.now c.requires.counted c.in-ManyNames.ensures.0 c.in-ManyNames.ensures.1 c.many_names.result c.many_names.ensures
+
+pub returns-in-Wide : goal.returns-in-Wide
+returns-in-Wide c = too_wide c.args.most c.args.bytes.now c.args.problem.now c.in-Wide.item c.requires.counted c.in-Wide.ensures c.wide_number.result c.wide_number.ensures
+
+pub returns-in_ok-overflow_text-in-Strained : goal.returns-in_ok-overflow_text-in-Strained
+returns-in_ok-overflow_text-in-Strained c = record {
+  problem = c.args.problem.now;
+  scope = in_scope c.args.bytes.now c.args.problem.now c.requires.counted c.in-Strained.ensures.scope;
+  lines = c.in-Strained.ensures.lines;
+  ground = c.in-Strained.ensures.ground;
+  strain = c.in-Strained.strain;
+  strained = c.in-Strained.ensures.strain;
+  written = c.in_ok-overflow_text-in-Strained.ensures;
+}
 
 pub returns-in_ok-sat_text-in-Sat : goal.returns-in_ok-sat_text-in-Sat
 returns-in_ok-sat_text-in-Sat c = record {

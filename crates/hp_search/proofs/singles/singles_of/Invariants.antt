@@ -1,8 +1,7 @@
 use Rattle.std.proofs.Common.{◌≤◌, length}
 use Rattle.std.specs.List.{All}
-use Rattle.hp_base.specs.Names.{sorts}
 use Rattle.hp_search.specs.Singles.{IsSingleOf}
 use Rattle.hp_search.proofs.singles.singles_of.Given as goal
 
 abbrev pub invariant-loop-at : goal.invariant-loop-at
-invariant-loop-at l = All (IsSingleOf (sorts l.g.names) l.g.lines) l.singles × (length l.singles ≤ l.at)
+invariant-loop-at l = All (IsSingleOf l.g.lines) l.singles × (length l.singles ≤ l.at)

@@ -1,9 +1,22 @@
-use Rattle.std.proofs.Common.{refl}
-use Rattle.hp_search.proofs.Closing.{more_lines, more_steps}
+use Rattle.std.proofs.Common.{◌++◌, ◌∷◌, [], ◌∙◌, ap, subst, sym}
+use Rattle.hp_leaf.specs.declared.tree.LeafProof.TheVariants.{Num, Idx}
+use Rattle.hp_leaf.specs.declared.tree.Node.TheVariants.{Leaf}
+use Rattle.hp_leaf.specs.Leaf.{IsValid}
+use Rattle.hp_leaf.specs.Tree.{IsClosed, place_lits}
+use Rattle.hp_search.specs.Singles.{lines_of_shares, lines_of_steps, shares_in_order, splits_of, steps_in_order}
+use Rattle.hp_search.proofs.Closing.{shares_close, steps_close}
 use Rattle.hp_search.proofs.singles.tree_of.Goals as goal
 
-pub loop-at-preserved : goal.loop-at-preserved
-loop-at-preserved c = (
-  more_lines c.args.singles.now c.args.steps.now c.loop-at.tree _ c.loop-at.at _ c.line_of.result c.loop-at-test.true c.line_of.ensures c.in_ok-push.ensures.ok c.loop-at.invariant.0,
-  more_steps c.args.steps.now c.loop-at.renumbered _ c.loop-at.at _ _ c.loop-at-test.true refl c.in_ok-push-2.ensures.ok c.loop-at.invariant.1,
-)
+pub returns-in_ok-tree_of_steps-in-Idx : goal.returns-in_ok-tree_of_steps-in-Idx
+returns-in_ok-tree_of_steps-in-Idx c =
+    let lines = c.args.g.now.lines in
+    let singles = c.args.singles.now in
+    let tree = c.in_ok-tree_of_steps-in-Idx.ensures ∙ ap (λ q. splits_of (lines_of_steps singles q) ++ Leaf (Idx (steps_in_order 0 q)) ∷ []) c.as_slice.ensures in
+    subst (IsClosed lines) (sym tree) (steps_close lines singles c.requires.singles.each c.in-Idx.steps (subst (IsValid (place_lits lines singles)) c.in-Idx.is c.requires.valid))
+
+pub returns-in_ok-tree_of_shares-in-Num : goal.returns-in_ok-tree_of_shares-in-Num
+returns-in_ok-tree_of_shares-in-Num c =
+    let lines = c.args.g.now.lines in
+    let singles = c.args.singles.now in
+    let tree = c.in_ok-tree_of_shares-in-Num.ensures ∙ ap (λ q. splits_of (lines_of_shares singles q) ++ Leaf (Num (shares_in_order 0 q)) ∷ []) c.as_slice-in-Num.ensures in
+    subst (IsClosed lines) (sym tree) (shares_close lines singles c.requires.singles.each c.in-Num.shares (subst (IsValid (place_lits lines singles)) c.in-Num.is c.requires.valid))

@@ -2,7 +2,7 @@ use Rattle.std.proofs.Common.{◌∙◌, ◌++◌, ◌∷◌, [], List, take, ma
 use Rattle.std.proofs.lemmas.Option.{get_or_from_slice_get}
 use Rattle.hp_base.specs.Names.{constant_name}
 use Rattle.hp_model.specs.declared.structure.ConstValue.{ConstValue}
-use Rattle.hp_norm.specs.Laws.{const_values}
+use Rattle.hp_ground.specs.Laws.{const_values}
 use Rattle.hp_solve.proofs.Structures.{one_more}
 use Rattle.hp_solve.proofs.solving.structure.Goals as goal
 

@@ -1,6 +1,6 @@
 use Rattle.std.proofs.Common.{◌≡◌, take, map}
 use Rattle.hp_base.specs.Names.{constant_name}
-use Rattle.hp_norm.specs.Laws.{const_values}
+use Rattle.hp_ground.specs.Laws.{const_values}
 use Rattle.hp_solve.proofs.solving.structure.Given as goal
 
 abbrev pub invariant-loop-at : goal.invariant-loop-at

@@ -1,0 +1,10 @@
+pub mod Walking
+pub mod Sorts
+pub mod Declared
+pub mod Fine
+pub mod NumNames
+pub mod IdxRows
+pub mod Steps
+pub mod Clauses
+pub mod Models
+pub mod Found

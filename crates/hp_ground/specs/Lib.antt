@@ -1,0 +1,4 @@
+pub mod Ground
+pub mod Lines
+pub mod Laws
+pub mod Answers

@@ -1,0 +1,133 @@
+//! The lines of clauses, each with the literals of the guard's atoms and then those of the head's.
+
+ghost use Rattle.std.specs.Prelude.{◌≡◌, ◌≤◌, length};
+ghost use Rattle.std.specs.List.{All, list_all};
+ghost use Rattle.hp_norm.specs.Literals.{IsLightAtom, IsLightClause};
+ghost use Rattle.hp_ground.specs.Ground.{IsGroundAtom, IsGroundClause};
+ghost use Rattle.hp_ground.specs.Lines.{atoms_literals, literals_of};
+ghost use Rattle.hp_ground.specs.Answers.{LineFound, LinesFound, Pushed};
+
+use crate::consts::Consts;
+use crate::forms::is_num_atom;
+use hp_ast::{Atom, Clause};
+use hp_base::{Line, Lit, Origin};
+use hp_linear::literals as num_literals;
+use hp_norm::{Side, Step, literals as idx_literals};
+use hp_num::List;
+use std::alloc::Global;
+
+/// A line; a number that is too wide; or want of memory.
+#[derive(Drop)]
+pub enum LineRead {
+    Read(Line),
+    Wide,
+    Memory,
+}
+
+/// The lines of all clauses; the number of the first clause with a number that is too wide, counted from 1; or want of
+/// memory.
+#[derive(Drop)]
+pub enum LinesRead {
+    Read(List<Line>),
+    Wide(u32),
+    Memory,
+}
+
+/// The lines of the clauses, numbered from 1.
+pub fn lines_of(alloc: Global, consts: &Consts, clauses: &[Clause]) -> LinesRead
+    requires few { length consts.now.names ≤ 4000 }
+    requires sorts { length consts.now.sorts ≡ length consts.now.names }
+    requires most { length clauses.now ≤ 2000 }
+    requires ground { All (IsGroundClause consts.now) clauses.now }
+    requires light { All IsLightClause clauses.now }
+    ensures { LinesFound consts.now clauses.now result }
+{
+    let mut lines: List<Line> = List::new(alloc);
+    for (at, clause) in clauses.iter().enumerate() {
+        let number = at as u32 + 1;
+        match line_of(alloc, consts, number, clause) {
+            LineRead::Wide => return LinesRead::Wide(number),
+            LineRead::Memory => return LinesRead::Memory,
+            LineRead::Read(line) => match lines.push(line) {
+                Err(_) => return LinesRead::Memory,
+                Ok(()) => {}
+            },
+        }
+    }
+    LinesRead::Read(lines)
+}
+
+/// The line of the clause of this number. Its atoms are of sort num or idx, so that no `Step::Other` comes.
+fn line_of(alloc: Global, consts: &Consts, number: u32, clause: &Clause) -> LineRead
+    requires few { length consts.now.names ≤ 4000 }
+    requires sorts { length consts.now.sorts ≡ length consts.now.names }
+    requires ground { IsGroundClause consts.now clause.now }
+    requires light { IsLightClause clause.now }
+    ensures { LineFound consts.now number clause.now result }
+{
+    let mut lits: List<Lit> = List::new(alloc);
+    match push_atoms(
+        alloc,
+        consts,
+        Side::Guard,
+        clause.guard.as_slice(),
+        &mut lits,
+    ) {
+        Step::Other | Step::Wide => LineRead::Wide,
+        Step::Memory => LineRead::Memory,
+        Step::Done => match push_atoms(
+            alloc,
+            consts,
+            Side::Head,
+            clause.head.as_slice(),
+            &mut lits,
+        ) {
+            Step::Other | Step::Wide => LineRead::Wide,
+            Step::Memory => LineRead::Memory,
+            Step::Done => LineRead::Read(Line {
+                lits,
+                origin: Origin::Ground { clause: number },
+            }),
+        },
+    }
+}
+
+/// Adds the literals of atoms in their order behind those that are there.
+fn push_atoms(
+    alloc: Global,
+    consts: &Consts,
+    side: Side,
+    atoms: &[Atom],
+    lits: &mut List<Lit>,
+) -> Step
+    requires few { length consts.now.names ≤ 4000 }
+    requires sorts { length consts.now.sorts ≡ length consts.now.names }
+    requires ground { All (IsGroundAtom consts.now) atoms.now }
+    requires light { All IsLightAtom atoms.now }
+    ensures { Pushed consts.now (atoms_literals consts.now side atoms.now) lits.old lits.new result }
+{
+    for atom in atoms {
+        match push_atom(alloc, consts, side, atom, lits) {
+            Step::Done => {}
+            Step::Other => return Step::Other,
+            Step::Wide => return Step::Wide,
+            Step::Memory => return Step::Memory,
+        }
+    }
+    Step::Done
+}
+
+/// Adds the literals of an atom behind those that are there.
+fn push_atom(alloc: Global, consts: &Consts, side: Side, atom: &Atom, lits: &mut List<Lit>) -> Step
+    requires few { length consts.now.names ≤ 4000 }
+    requires sorts { length consts.now.sorts ≡ length consts.now.names }
+    requires ground { IsGroundAtom consts.now atom.now }
+    requires light { IsLightAtom atom.now }
+    ensures { Pushed consts.now (literals_of consts.now side atom.now) lits.old lits.new result }
+{
+    if is_num_atom(consts, atom) {
+        num_literals(alloc, &consts.names, side, atom, lits)
+    } else {
+        idx_literals(&consts.names, side, atom, lits)
+    }
+}

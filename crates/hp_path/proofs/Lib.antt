@@ -1,0 +1,5 @@
+pub mod Places
+pub mod Splitting
+pub mod Mixed
+pub mod Merging
+pub mod Gathering

@@ -1,0 +1,64 @@
+use Rattle.std.proofs.Common.{◌≡◌, ◌≤◌, ◌<◌, ◌+◌, ◌++◌, sym, ◌∙◌, ap, subst, arith, length, get_or, Ok, true, false, set, replicate}
+use Rattle.hp_base.specs.Names.{sorts}
+use Rattle.hp_base.specs.declared.literal.NumLit.{NumLit}
+use Rattle.hp_base.specs.declared.valuation.NameValue.{NameValue}
+use Rattle.std.specs.List.{All, filter}
+use Rattle.hp_path.specs.Components.{AreSolved, first_label, has_label, is_done, label_at}
+use Rattle.hp_path.specs.Placed.{AreSolving}
+use Rattle.hp_path.specs.Sides.{AreOfLabel, DecidesNums}
+use Rattle.hp_path.proofs.Gathering.{done_read, label_small, solved_all, solved_more, solved_none, solved_past}
+use Rattle.hp_path.proofs.components.decide_apart.Goals as goal
+use Rattle.hp_path.proofs.components.decide_apart.Goals.{then-not-get+in_ok-more+in-Point+in_ok-push_values-in-Point, else-not-get}
+
+pub get-requires : goal.get-requires
+get-requires c =
+    let labels = c.args.labels.now in
+    let nums = c.args.parts.now.nums in
+    let at : c.lit-item.result ≡ get_or nums c.loop-lit.lit-index c.lit-item.result = c.lit-item.is ∙ ap (λ ls. get_or ls c.loop-lit.lit-index c.lit-item.result) c.as_slice-lit-items.ensures in
+    let l : c.loop-lit.lit-index < length nums = subst (λ ls. c.loop-lit.lit-index < length ls) c.as_slice-lit-items.ensures c.loop-lit-test.true in
+    let e = c.first_label-label.ensures ∙ ap (first_label labels) c.as_slice.ensures in
+    omega (arith, label_small labels nums c.lit-item.result c.loop-lit.lit-index c.requires.labels l at, e, c.loop-lit.invariant.count)
+
+pub loop-lit-init : goal.loop-lit-init
+loop-lit-init c =
+    let ss = sorts c.args.names.now in
+    let labels = c.args.labels.now in
+    let nums = c.args.parts.now.nums in
+    let e = c.in_ok-done.ensures ∙ ap (λ n. replicate (n + 1) false) c.len.ensures in
+    subst (AreSolved ss labels nums 0 c.in_ok-done.done) (sym c.new-values.ensures) (solved_none ss labels nums c.in_ok-done.done e)
+
+pub loop-lit-preserved : goal.loop-lit-preserved
+loop-lit-preserved c =
+    let ss = sorts c.args.names.now in
+    let labels = c.args.labels.now in
+    let nums = c.args.parts.now.nums in
+    let i = c.loop-lit.lit-index in
+    let label = c.first_label-label.result in
+    let lit = c.lit-item.result in
+    let at : lit ≡ get_or nums i lit = c.lit-item.is ∙ ap (λ ls. get_or ls i lit) c.as_slice-lit-items.ensures in
+    let l : i < length nums = subst (λ ls. i < length ls) c.as_slice-lit-items.ensures c.loop-lit-test.true in
+    let own : label ≡ first_label labels lit.parts = c.first_label-label.ensures ∙ ap (first_label labels) c.as_slice.ensures in
+    let e : label ≡ first_label labels (get_or nums i lit).parts = own ∙ ap (λ (x : NumLit). first_label labels x.parts) at in
+    let below : label < length c.loop-lit.done = omega (arith, label_small labels nums lit i c.requires.labels l at, own, c.loop-lit.invariant.count) in
+    let read : is_done c.loop-lit.done label ≡ c.get.result.now = done_read c.loop-lit.done label c.get.result.now c.get.ensures in
+    elim c.if-not-get.branch [
+      | then-not-get+in_ok-more+in-Point+in_ok-push_values-in-Point w ↦
+          let decided : AreSolving ss (filter (has_label labels label) nums) w.in-Point.more = subst (λ a. DecidesNums ss c.args.lits.now (filter (has_label labels label) nums) (Ok a)) w.in-Point.is w.in_ok-more.ensures.decided in
+          let names : All (λ (nv : NameValue). label_at labels nv.name.0 ≡ label) w.in-Point.more = subst (λ a. AreOfLabel labels label (Ok a)) w.in-Point.is w.in_ok-more.ensures.names in
+          let pushed : c.if-not-get.values ≡ c.loop-lit.values ++ w.in-Point.more = w.values-is ∙ w.in_ok-push_values-in-Point.ensures ∙ ap (λ m. c.loop-lit.values ++ m) w.as_slice-in-Point.ensures in
+          let done : c.if-not-get.done ≡ set c.loop-lit.done label true = w.done-is ∙ w.set.ensures in
+          subst (AreSolved ss labels nums (i + 1) c.if-not-get.done) (sym pushed)
+          (subst (λ d. AreSolved ss labels nums (i + 1) d (c.loop-lit.values ++ w.in-Point.more)) (sym done)
+          (solved_more ss labels nums i lit c.loop-lit.done c.loop-lit.values w.in-Point.more label l c.loop-lit.invariant e below (read ∙ w.if-not-get.true) decided names))
+      | else-not-get w ↦
+          subst (AreSolved ss labels nums (i + 1) c.if-not-get.done) (sym w.values-is)
+          (subst (λ d. AreSolved ss labels nums (i + 1) d c.loop-lit.values) (sym w.done-is)
+          (solved_past ss labels nums i lit c.loop-lit.done c.loop-lit.values l c.loop-lit.invariant (ap (is_done c.loop-lit.done) (sym e) ∙ read ∙ w.if-not-get.false)))
+    ]
+
+pub returns : goal.returns
+returns c =
+    let nums = c.args.parts.now.nums in
+    let n = ap length c.as_slice-lit-items.ensures in
+    let end : length nums ≤ c.loop-lit.lit-index = omega (arith, n, c.loop-lit-test.false) in
+    solved_all (sorts c.args.names.now) c.args.labels.now nums c.loop-lit.lit-index c.loop-lit.done c.loop-lit.values end c.loop-lit.invariant

@@ -1,0 +1,6 @@
+pub mod Built
+pub mod Decided
+pub mod Parted
+pub mod Placed
+pub mod Sides
+pub mod Components

@@ -1,0 +1,71 @@
+//! The decision that speaks of chains: all literals over fractions at once, by dimension descent.
+ghost use Rattle.std.specs.Prelude.{◌≤◌, length};
+ghost use Rattle.std.specs.List.{All};
+ghost use Rattle.hp_base.specs.Names.{sorts};
+ghost use Rattle.hp_diff.specs.Rows.{IsPoint};
+ghost use Rattle.hp_path.specs.Built.{IsBuilt, idx_lits};
+ghost use Rattle.hp_path.specs.Decided.{Decides};
+ghost use Rattle.hp_path.specs.Parted.{AreParts};
+
+use crate::parting::{Parts, parts_of};
+use crate::placing::values_for;
+use crate::rows::decide_rows;
+use hp_base::{Lit, NameValue, Names, Valuation};
+use hp_descent::{ChainAnswer, DescentErr, decide_chain};
+use hp_diff::DiffAnswer;
+use hp_leaf::{LeafProof, renumber_shares};
+use hp_num::List;
+use std::alloc::Global;
+
+/// Values that make all literals true, or the evidence that there are none.
+#[derive(Drop)]
+pub enum Decision {
+    /// A value for each name, and the chain of the literals over fractions whose point gives the values of sort num: row
+    /// numbers from 1, that of t first and then those of these literals, which fall.
+    Values { values: Valuation, chain: List<u32> },
+    /// A leaf over the literals, which count from 1.
+    Leaf(LeafProof),
+}
+
+/// Decides literals over whole numbers and over fractions.
+///
+/// `Values` has a value for each name: whole numbers of a magnitude of at most 10^37 for names of sort idx; for names of
+/// sort num those of the point of the chain, and 0 where a name occurs in no literal. `Leaf` is valid. `Strain` comes only
+/// where a number of the descent over the literals over fractions passes 2^127 - 1, and names the first one.
+pub fn decide(alloc: Global, names: &Names, lits: &[Lit]) -> Result<Decision, DescentErr>
+    requires built { All (IsBuilt (sorts names.now)) lits.now }
+    requires few { length lits.now ≤ 100000 }
+    ensures { Decides (sorts names.now) lits.now result }
+{
+    let parts = parts_of(alloc, lits)?;
+    match decide_rows(alloc, names, lits, &parts)? {
+        DiffAnswer::Cycle(steps) => Ok(Decision::Leaf(LeafProof::Idx(steps))),
+        DiffAnswer::Point(point) => decide_over(alloc, names, lits, &parts, point),
+    }
+}
+
+/// As `decide`, with values that make the literals over whole numbers true.
+fn decide_over(
+    alloc: Global,
+    names: &Names,
+    lits: &[Lit],
+    parts: &Parts,
+    point: List<NameValue>,
+) -> Result<Decision, DescentErr>
+    requires built { All (IsBuilt (sorts names.now)) lits.now }
+    requires few { length lits.now ≤ 100000 }
+    requires parts { AreParts lits.now parts.now }
+    requires point { IsPoint (idx_lits lits.now) point }
+    ensures { Decides (sorts names.now) lits.now result }
+{
+    match decide_chain(alloc, parts.nums.as_slice())? {
+        ChainAnswer::Farkas(shares) => {
+            let shares = renumber_shares(alloc, parts.num_places.as_slice(), shares.as_slice())?;
+            Ok(Decision::Leaf(LeafProof::Num(shares)))
+        }
+        ChainAnswer::Point { chain, values } => {
+            let values = values_for(alloc, names, lits, point, values.as_slice())?;
+            Ok(Decision::Values { values, chain })
+        }
+    }
+}

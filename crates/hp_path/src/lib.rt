@@ -1,0 +1,16 @@
+//! The literals of a path, decided by the engine of each sort: values that make all of them true, or a valid leaf.
+#![tactic(auto)]
+
+mod components;
+mod deciding;
+mod labels;
+mod parting;
+mod placing;
+mod quick;
+mod rows;
+
+pub use deciding::{Decision, decide};
+pub use quick::{Quick, decide_quickly};
+
+#[cfg(test)]
+mod tests;

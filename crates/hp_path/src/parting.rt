@@ -1,0 +1,70 @@
+//! The literals of a path by their sorts, each with its number along the path.
+ghost use Rattle.std.specs.Prelude.{◌≡◌, ◌≤◌, IfOk, length};
+ghost use Rattle.hp_path.specs.Parted.{AreParts};
+
+use hp_base::{IdxLit, Lit, NumLit, Part};
+use hp_num::List;
+use std::alloc::{AllocError, Global};
+
+/// The literals over whole numbers and those over fractions, in their order, and the number of each along the path,
+/// counted from 1.
+#[derive(Drop)]
+pub struct Parts {
+    pub rows: List<IdxLit>,
+    pub row_places: List<u32>,
+    pub nums: List<NumLit>,
+    pub num_places: List<u32>,
+}
+
+/// An equal list of summands.
+fn copy_parts(alloc: Global, parts: &[Part]) -> Result<List<Part>, AllocError>
+    ensures { IfOk result (λ copied. copied ≡ parts.now) }
+{
+    let mut copied = List::new(alloc);
+    for part in parts {
+        copied.push(*part)?;
+    }
+    Ok(copied)
+}
+
+/// An equal literal.
+pub fn copy_num(alloc: Global, lit: &NumLit) -> Result<NumLit, AllocError>
+    ensures { IfOk result (λ copied. copied ≡ lit.now) }
+{
+    let parts = copy_parts(alloc, lit.parts.as_slice())?;
+    Ok(NumLit {
+        rel: lit.rel,
+        parts,
+        bound: lit.bound,
+    })
+}
+
+/// The literals of a path by their sorts. Pointer literals are left out.
+pub fn parts_of(alloc: Global, lits: &[Lit]) -> Result<Parts, AllocError>
+    requires few { length lits.now ≤ 100000 }
+    ensures { IfOk result (λ parts. AreParts lits.now parts) }
+{
+    let mut rows = List::new(alloc);
+    let mut row_places = List::new(alloc);
+    let mut nums = List::new(alloc);
+    let mut num_places = List::new(alloc);
+    for at in 0..lits.len() {
+        match &lits[at] {
+            Lit::Num(lit) => {
+                nums.push(copy_num(alloc, lit)?)?;
+                num_places.push(at as u32 + 1)?;
+            }
+            Lit::Idx(row) => {
+                rows.push(*row)?;
+                row_places.push(at as u32 + 1)?;
+            }
+            Lit::Ptr(_) => {}
+        }
+    }
+    Ok(Parts {
+        rows,
+        row_places,
+        nums,
+        num_places,
+    })
+}

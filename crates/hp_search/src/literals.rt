@@ -1,0 +1,84 @@
+//! The literals of a path, copied from the lines.
+ghost use Rattle.std.specs.Prelude.{◌≡◌, ◌++◌, ◌∷◌, [], IfOk, OnOk};
+ghost use Rattle.hp_leaf.specs.Tree.{lit_at, place_lits};
+
+use hp_base::{Choice, Ground, IdxLit, Lit, NumLit};
+use hp_num::List;
+use std::alloc::{AllocError, Global};
+
+/// A copy of a literal.
+fn copy_of(alloc: Global, lit: &Lit) -> Result<Lit, AllocError>
+    ensures { IfOk result (λ copy. copy ≡ lit.now) }
+{
+    match lit {
+        Lit::Idx(row) => Ok(Lit::Idx(*row)),
+        Lit::Ptr(pair) => Ok(Lit::Ptr(*pair)),
+        Lit::Num(num) => Ok(Lit::Num(copy_of_num(alloc, num)?)),
+    }
+}
+
+/// A copy of a literal over fractions.
+fn copy_of_num(alloc: Global, num: &NumLit) -> Result<NumLit, AllocError>
+    ensures { IfOk result (λ copy. copy ≡ num.now) }
+{
+    let mut parts = List::new(alloc);
+    for part in num.parts.as_slice() {
+        parts.push(*part)?;
+    }
+    Ok(NumLit {
+        rel: num.rel,
+        parts,
+        bound: num.bound,
+    })
+}
+
+/// A copy of the literal of a choice; `0 <= 0` where there is none.
+fn lit_at(alloc: Global, g: &Ground, choice: Choice) -> Result<Lit, AllocError>
+    ensures { IfOk result (λ lit. lit ≡ lit_at g.now.lines choice) }
+{
+    let line = (choice.line as usize).saturating_sub(1);
+    let lit = (choice.lit as usize).saturating_sub(1);
+    match g.lines.as_slice().get(line) {
+        None => Ok(nothing()),
+        Some(line) => match line.lits.as_slice().get(lit) {
+            None => Ok(nothing()),
+            Some(lit) => copy_of(alloc, lit),
+        },
+    }
+}
+
+/// `0 <= 0`.
+fn nothing() -> Lit
+    ensures { result ≡ Rattle.hp_leaf.specs.Tree.nothing }
+{
+    Lit::Idx(IdxLit {
+        exact: false,
+        left: None,
+        right: None,
+        bound: 0,
+    })
+}
+
+/// Appends the literals of these choices.
+pub fn push_lits(
+    alloc: Global,
+    g: &Ground,
+    path: &[Choice],
+    lits: &mut List<Lit>,
+) -> Result<(), AllocError>
+    ensures { OnOk result (lits.new ≡ lits.old ++ place_lits g.now.lines path.now) }
+{
+    for choice in path {
+        lits.push(lit_at(alloc, g, *choice)?)?;
+    }
+    Ok(())
+}
+
+/// The literals of a path.
+pub fn lits_of(alloc: Global, g: &Ground, path: &[Choice]) -> Result<List<Lit>, AllocError>
+    ensures { IfOk result (λ lits. lits ≡ place_lits g.now.lines path.now) }
+{
+    let mut lits = List::new(alloc);
+    push_lits(alloc, g, path, &mut lits)?;
+    Ok(lits)
+}
