@@ -66,6 +66,40 @@ def compared(rng, count, guards):
     return lines
 
 
+def num_constants(count):
+    return ["const " + ", ".join(f"c{i}" for i in range(count)) + ": num;"]
+
+
+def linear(rng, count, names, low, high):
+    """Rows of two to four names with small coefficients."""
+    lines = num_constants(names)
+    for _ in range(count):
+        chosen = sorted(rng.sample(range(names), rng.randrange(2, 5)))
+        coefficients = [rng.choice([-3, -2, -1, 1, 2, 3]) for _ in chosen]
+        left = " + ".join(f"{c} * c{i}" for c, i in zip(coefficients, chosen)).replace("+ -", "- ")
+        lines.append(f"query {left} {rng.choice(['<=', '<', '<='])} {rng.randrange(low, high + 1)};")
+    return lines
+
+
+def apart(count):
+    """A bound on each of so many names."""
+    return num_constants(count) + [f"query c{i} < 0;" for i in range(count)]
+
+
+def num_chain(count, closed):
+    """One name below the next, and the last below the first where closed."""
+    last = [f"query c{count} < c0;"] if closed else []
+    return num_constants(count + 1) + [f"query c{i} < c{i + 1};" for i in range(count)] + last
+
+
+def num_choices(rng, count):
+    """Fractions that are to be apart from one another within an interval: a choice for each pair."""
+    lines = num_constants(count)
+    lines += [f"query 0 <= c{i};" for i in range(count)] + [f"query c{i} <= {count - 1};" for i in range(count)]
+    lines += [f"query c{i} + 1 <= c{j} | c{j} + 1 <= c{i};" for i in range(count) for j in range(i)]
+    return lines
+
+
 def main():
     rng = random.Random(7)
     write("clauses.hp", clauses())
@@ -77,6 +111,13 @@ def main():
     write("wide.hp", wide(rng))
     write("chain.hp", chain(1900))
     write("ring.hp", ring(1900))
+    write("linear.hp", linear(random.Random(1), 60, 20, -10, 10))
+    write("linear-loose.hp", linear(random.Random(2), 60, 20, 2, 30))
+    write("linear-tight.hp", linear(random.Random(3), 60, 20, -2, 10))
+    write("apart.hp", apart(1900))
+    write("num-chain.hp", num_chain(60, False))
+    write("num-ring.hp", num_chain(60, True))
+    write("num-choices.hp", num_choices(random.Random(5), 5))
     for jobs in (4, 5, 6, 7):
         write(f"machine-{jobs}-fits.hp", one_machine(rng, jobs, 0))
         write(f"machine-{jobs}-late.hp", one_machine(rng, jobs, -1))
