@@ -320,7 +320,10 @@ impl Variables {
         ensures { Gives (λ v. v) result (variables_name name self) }
     {
         match self {
-            Variables::First => Ok(Variables::Named(List::new(alloc), name)),
+            Variables::First => {
+                let vars = Vec::with_capacity(alloc, 2)?;
+                Ok(Variables::Named(List::from_vec(vars), name))
+            }
             Variables::Name(vars) => Ok(Variables::Named(vars, name)),
             _ => Err(Stop::Refused),
         }
