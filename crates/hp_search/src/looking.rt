@@ -4,13 +4,13 @@
 //! decided alone, and the lines of the conflict are those to split first. Where a number is too wide for that, and where
 //! the values have to be those of a chain, the literals of the path alone are decided by dimension descent, whose strain
 //! is one of this path.
-ghost use Rattle.std.specs.Prelude.{◌≡◌, ◌≤◌, IfOk, IfErr, length, true};
+ghost use Rattle.std.specs.Prelude.{◌≡◌, ◌≤◌, [], IfOk, IfErr, IfSome, length, true};
 ghost use Rattle.std.specs.List.{All};
 ghost use Rattle.hp_base.specs.Names.{sorts};
 ghost use Rattle.hp_leaf.specs.Tree.{place_lits};
 ghost use Rattle.hp_path.specs.Decided.{AreOfChain, AreValuesFor};
 ghost use Rattle.hp_search.specs.Lines.{AreBuilt};
-ghost use Rattle.hp_search.specs.Search.{FindsAhead, IsCauseAt, Looks, Sees, SeesChain};
+ghost use Rattle.hp_search.specs.Search.{FindsAhead, IsCauseAt, IsModelAt, Looks, Sees, SeesChain};
 ghost use Rattle.hp_search.specs.Singles.{AreSinglesOf, IsLeafWithin};
 
 use crate::literals::{lits_of, push_lits};
@@ -136,6 +136,41 @@ fn decide_ahead(
             let suspects = suspects(alloc, singles, path.len(), &proof)?;
             decide_alone(alloc, g, path, suspects)
         }
+    }
+}
+
+/// The last literal of each line that has one: of a clause, the last atom of its head.
+fn last_choices(alloc: Global, g: &Ground) -> Result<List<Choice>, AllocError>
+    requires lines { length g.now.lines ≤ 50000 }
+    ensures { IfOk result (λ last. length last ≤ length g.now.lines) }
+{
+    let mut last = List::new(alloc);
+    for (at, line) in g.lines.as_slice().iter().enumerate() {
+        match u32::try_from(line.lits.len()) {
+            Ok(0) | Err(_) => {}
+            Ok(lit) => last.push(Choice {
+                line: at as u32 + 1,
+                lit,
+            })?,
+        }
+    }
+    Ok(last)
+}
+
+/// Values that make every line true, where the last literals of all lines can be true at once and this shows quickly. So
+/// clauses with guards need no tree where their heads agree.
+pub fn guess_model(alloc: Global, g: &Ground) -> Result<Option<Valuation>, AllocError>
+    requires built { All (λ line. AreBuilt (sorts g.now.names) line.lits) g.now.lines }
+    requires lines { length g.now.lines ≤ 50000 }
+    ensures { IfOk result (λ guess. IfSome guess (λ v. IsModelAt (sorts g.now.names) g.now.lines [] v)) }
+{
+    let last = last_choices(alloc, g)?;
+    match decide_alone(alloc, g, last.as_slice(), List::new(alloc))? {
+        Ahead::Leaf(_) | Ahead::Unknown => Ok(None),
+        Ahead::Values { values, .. } => match first_false(g, &values, &[])? {
+            Verdict::AllTrue => Ok(Some(values)),
+            Verdict::False(_) | Verdict::Wide { .. } => Ok(None),
+        },
     }
 }
 

@@ -8,7 +8,7 @@ ghost use Rattle.hp_search.specs.Lines.{AreBuilt};
 ghost use Rattle.hp_search.specs.Search.{IsAt, IsCause, IsFound, IsNotSpent, Turned};
 ghost use Rattle.hp_search.specs.Singles.{AreSinglesOf};
 
-use crate::looking::{Seen, look};
+use crate::looking::{Seen, guess_model, look};
 use crate::places::{enter, go_on, leave};
 use crate::singles::{close_singles, singles_of};
 use hp_base::{Choice, Ground, Valuation};
@@ -169,8 +169,17 @@ pub fn search(alloc: Global, g: &Ground, most: u64, exact: bool) -> Result<Found
     ensures enough { limit g.now.lines ≤ most → IfOk result IsNotSpent }
 {
     let singles = singles_of(alloc, g)?;
-    match close_singles(alloc, g, singles.as_slice())? {
-        Some(tree) => Ok(Found::Closed(tree)),
-        None => search_places(alloc, g, singles.as_slice(), most, exact),
+    if let Some(tree) = close_singles(alloc, g, singles.as_slice())? {
+        return Ok(Found::Closed(tree));
     }
+    if !exact {
+        if let Some(values) = guess_model(alloc, g)? {
+            return Ok(Found::Model(Solution {
+                values,
+                path: List::new(alloc),
+                chain: None,
+            }));
+        }
+    }
+    search_places(alloc, g, singles.as_slice(), most, exact)
 }

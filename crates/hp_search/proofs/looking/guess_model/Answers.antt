@@ -1,0 +1,12 @@
+use Rattle.std.proofs.Common.{subst}
+use Rattle.hp_base.specs.Names.{sorts}
+use Rattle.hp_leaf.specs.Tree.{place_lits}
+use Rattle.hp_search.specs.Search.{FindsAhead}
+use Rattle.hp_search.proofs.Reading.{lines_readable}
+use Rattle.hp_search.proofs.looking.guess_model.Goals as goal
+
+pub first_false-requires-clause-readable : goal.first_false-requires-clause-readable
+first_false-requires-clause-readable c =
+    let ss = sorts c.args.g.now.names in
+    let found = subst (FindsAhead ss (place_lits c.args.g.now.lines c.as_slice.result.now)) c.in-Values.is c.in_ok-decide_alone.ensures in
+    lines_readable ss c.in-Values.values.values found.small c.args.g.now.lines c.requires.built
