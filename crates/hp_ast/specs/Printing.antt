@@ -114,6 +114,15 @@ decl_text (Fun name args value level) =
 abbrev pub line : List ℕ → List ℕ
 line text = text ++ codes "\n"
 
+-- the line of the profile and those of the declarations
+abbrev pub heading_text : Problem → List ℕ
+heading_text problem =
+    line (codes "profile " ++ decimal problem.profile ++ codes ";")
+    ++ flat_map (λ decl. line (decl_text decl)) problem.decls
+
+abbrev pub clauses_text : List Clause → List ℕ
+clauses_text clauses = flat_map (λ clause. line (clause_text clause)) clauses
+
 abbrev pub problem_text : Problem → List ℕ
 problem_text problem =
     line (codes "profile " ++ decimal problem.profile ++ codes ";")

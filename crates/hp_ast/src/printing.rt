@@ -4,7 +4,7 @@
 
 ghost use Rattle.std.specs.Prelude.{◌≡◌, ◌++◌, codes, IfOk, OnOk};
 ghost use Rattle.std.specs.List.{join_by, flat_map};
-ghost use Rattle.hp_ast.specs.Printing.{frac_text, opening, closing, enclosed, encloses_sum, encloses_product, text_at, term_text, relation_text, atom_text, guard_text, head_text, sort_text, var_text, word_text, clause_text, decl_text, line, problem_text};
+ghost use Rattle.hp_ast.specs.Printing.{frac_text, opening, closing, enclosed, encloses_sum, encloses_product, text_at, term_text, relation_text, atom_text, guard_text, head_text, sort_text, var_text, word_text, clause_text, decl_text, line, heading_text, clauses_text, problem_text};
 
 use crate::problem::{Atom, Clause, Cmp, Decl, Problem, Sort, Var};
 use crate::term::Term;
@@ -20,12 +20,34 @@ pub fn print(alloc: Global, problem: &Problem) -> Result<Text, AllocError>
     ensures { IfOk result (λ text. text ≡ problem_text problem.now) }
 {
     let mut out = Text::new(alloc);
-    put_text(&mut out, b"profile ")?;
-    put_whole(&mut out, i128::from(problem.profile))?;
-    put_text(&mut out, b";\n")?;
-    put_decls(&mut out, problem.decls.as_slice())?;
+    put_heading(&mut out, problem)?;
     put_clauses(&mut out, problem.clauses.as_slice())?;
     Ok(out)
+}
+
+/// Puts the text of a problem up to its clauses at the end of `out`: the line of its profile, then one line for each declaration.
+///
+/// An `Err` comes where memory is short, and then a part of the lines may stand at the end of `out`.
+pub fn put_heading(out: &mut Text, problem: &Problem) -> Result<(), AllocError>
+    ensures { OnOk result (out.new ≡ out.old ++ heading_text problem.now) }
+{
+    put_text(out, b"profile ")?;
+    put_whole(out, i128::from(problem.profile))?;
+    put_text(out, b";\n")?;
+    put_decls(out, problem.decls.as_slice())
+}
+
+/// Puts clauses at the end of `out`, one line for each.
+///
+/// An `Err` comes where memory is short, and then a part of the lines may stand at the end of `out`.
+pub fn put_clauses(out: &mut Text, clauses: &[Clause]) -> Result<(), AllocError>
+    ensures { OnOk result (out.new ≡ out.old ++ clauses_text clauses.now) }
+{
+    for clause in clauses {
+        put_clause(out, clause)?;
+        put_text(out, b"\n")?;
+    }
+    Ok(())
 }
 
 /// Puts a number at the end of `out`: its numerator in decimal digits, with `-` in front of a negative one, and behind
@@ -230,17 +252,6 @@ fn put_sorts(out: &mut Text, sorts: &[Sort]) -> Result<(), AllocError>
             put_text(out, b", ")?;
         }
         put_text(out, sort_name(*sort))?;
-    }
-    Ok(())
-}
-
-/// Puts the clauses, each on a line.
-fn put_clauses(out: &mut Text, clauses: &[Clause]) -> Result<(), AllocError>
-    ensures { OnOk result (out.new ≡ out.old ++ flat_map (λ clause. line (clause_text clause)) clauses.now) }
-{
-    for clause in clauses {
-        put_clause(out, clause)?;
-        put_text(out, b"\n")?;
     }
     Ok(())
 }

@@ -29,6 +29,15 @@ impl Text {
         }
     }
 
+    /// An empty text with room for so many bytes.
+    pub fn with_capacity(alloc: Global, room: usize) -> Result<Text, AllocError>
+        ensures { IfOk result (λ text. text ≡ []) }
+    {
+        Ok(Text {
+            bytes: Vec::with_capacity(alloc, room)?,
+        })
+    }
+
     /// A text of these bytes.
     pub fn from_slice(alloc: Global, bytes: &[u8]) -> Result<Text, AllocError>
         ensures { IfOk result (λ text. text ≡ bytes.now) }

@@ -89,7 +89,7 @@ no_token bytes place s c (faults.LongNumeral o) h e = record {
 }
 
 -- the same, where the place and the cause are known by equations
-pub no_token_here : (bytes seen : List ℕ) (place at : ℕ) (s : Progress) (c : Counts) (e : TokenErr) (r : Result Problem ReadErr) → IsReading bytes place s c
+pub no_token_here : {A : Type 0} (bytes seen : List ℕ) (place at : ℕ) (s : Progress) (c : Counts) (e : TokenErr) (r : Result A ReadErr) → IsReading bytes place s c
     → seen ≡ bytes → at ≡ place → ◌≡◌ {A = Result Placed TokenErr} (Err e) (next_from seen at) → IsErrAnd r (λ f. f ≡ fault_of e) → IfErr r (IsFault bytes)
 no_token_here bytes seen place at s c e (Ok p) h i j k l = tt
 no_token_here bytes seen place at s c e (Err f) h i j k l =

@@ -14,3 +14,5 @@ pub mod Bytes
 pub mod BytesLaws
 pub mod Symbols
 pub mod Meaning
+pub mod Resumed
+pub mod Printing

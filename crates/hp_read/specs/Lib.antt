@@ -15,3 +15,4 @@ pub mod Top
 pub mod Symbols
 pub mod Causes
 pub mod Spells
+pub mod Printed

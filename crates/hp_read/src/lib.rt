@@ -17,7 +17,9 @@ mod symbol;
 mod term;
 #[cfg(test)]
 mod tests;
+mod transcript;
 
 pub use fault::ReadErr;
 pub use laws::{spells_one_problem, spells_or_has_fault, spells_without_fault};
 pub use reader::read;
+pub use transcript::transcribe;

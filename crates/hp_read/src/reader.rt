@@ -1,11 +1,15 @@
 //! The reader of problems: one token after another, with the limits counted beside.
 //! What bytes spell, and what their fault is, `specs/Spells.antt` says.
 
-ghost use Rattle.std.specs.Prelude.{Ok, Err, ◌≡◌, ◌≢◌, ◌⊎◌, IfOk, IfErr, OnOk};
+ghost use Rattle.std.specs.Prelude.{Ok, Err, Some, ◌≡◌, ◌≢◌, ◌⊎◌, IfOk, IfErr, OnOk};
 ghost use Rattle.hp_text.specs.Tokens.{next_from};
 ghost use Rattle.hp_text.specs.Placed.{IsPlaced};
 ghost use Rattle.hp_text.specs.declared.token.Kind.TheVariants.{End};
+ghost use Rattle.hp_read.specs.Causes.{StopsAt};
+ghost use Rattle.hp_read.specs.Counts.{count, nothing_counted};
 ghost use Rattle.hp_read.specs.Spells.{Spells, IsFault, IsReading};
+ghost use Rattle.hp_read.specs.Symbols.{symbol_of};
+ghost use Rattle.hp_read.specs.Top.{started, top_step};
 ghost use Rattle.hp_ast.specs.declared.problem.Problem.{Problem as Spelled};
 ghost use Rattle.hp_read.specs.declared.fault.ReadErr.TheVariants.{Memory};
 
@@ -38,10 +42,50 @@ pub fn read(alloc: Global, bytes: &[u8]) -> Result<Problem, ReadErr>
 
 /// What the reader has come to, and the place behind the last token.
 #[derive(Drop)]
-struct Reading {
-    progress: Progress,
-    counts: Counts,
-    place: usize,
+pub(crate) struct Reading {
+    pub progress: Progress,
+    pub counts: Counts,
+    pub place: usize,
+}
+
+impl Reading {
+    /// Nothing is read yet.
+    pub(crate) fn new(alloc: Global) -> Reading
+        ensures progress { result.progress ≡ started }
+        ensures counts { result.counts ≡ nothing_counted }
+        ensures place { result.place ≡ 0 }
+    {
+        Reading {
+            progress: Progress::new(alloc),
+            counts: Counts::new(),
+            place: 0,
+        }
+    }
+
+    /// The reader goes behind one more token of the bytes.
+    pub(crate) fn step(&mut self, alloc: Global, bytes: &[u8], token: Token) -> Result<(), ReadErr>
+        requires placed { IsPlaced bytes.now self.old.place token }
+        ensures progress { OnOk result (top_step self.old.progress (symbol_of bytes.now token) ≡ Some self.new.progress) }
+        ensures counts { OnOk result (count self.old.counts (symbol_of bytes.now token) ≡ Some self.new.counts) }
+        ensures place { OnOk result (self.new.place ≡ token.end) }
+        ensures fault { IfErr result (StopsAt bytes.now token self.old.progress self.old.counts) }
+    {
+        let symbol = symbol_at(alloc, bytes, token)?;
+        let counts = self.counts.count(&symbol);
+        let offset = token.start;
+        match self.progress.step(alloc, symbol) {
+            Err(Stop::Refused) => Err(ReadErr::Syntax { offset }),
+            Err(Stop::Memory) => Err(ReadErr::Memory),
+            Ok(()) => match counts {
+                None => Err(ReadErr::Deep { offset }),
+                Some(counts) => {
+                    self.counts = counts;
+                    self.place = token.end;
+                    Ok(())
+                }
+            },
+        }
+    }
 }
 
 fn read_tokens(alloc: Global, bytes: &[u8]) -> Result<Problem, ReadErr>
@@ -49,11 +93,7 @@ fn read_tokens(alloc: Global, bytes: &[u8]) -> Result<Problem, ReadErr>
     ensures fault { IfErr result (IsFault bytes.now) }
 {
     let mut cursor = Cursor::new(bytes);
-    let mut reading = Reading {
-        progress: Progress::new(alloc),
-        counts: Counts::new(),
-        place: 0,
-    };
+    let mut reading = Reading::new(alloc);
     loop {
         let token = cursor.next()?;
         if token.kind == Kind::End {
@@ -73,21 +113,7 @@ fn advance(alloc: Global, bytes: &[u8], reading: &mut Reading, token: Token) -> 
     ensures place { OnOk result (reading.new.place ≡ token.end) }
     ensures fault { IfErr result (IsFault bytes.now) }
 {
-    let symbol = symbol_at(alloc, bytes, token)?;
-    let counts = reading.counts.count(&symbol);
-    let offset = token.start;
-    match reading.progress.step(alloc, symbol) {
-        Err(Stop::Refused) => Err(ReadErr::Syntax { offset }),
-        Err(Stop::Memory) => Err(ReadErr::Memory),
-        Ok(()) => match counts {
-            None => Err(ReadErr::Deep { offset }),
-            Some(counts) => {
-                reading.counts = counts;
-                reading.place = token.end;
-                Ok(())
-            }
-        },
-    }
+    reading.step(alloc, bytes, token)
 }
 
 /// The problem at the end of the bytes, where it may end there.

@@ -33,6 +33,22 @@ fn a_problem(rt: HostRuntime) -> Result<(), Fail> {
 }
 
 #[test]
+fn a_transcript(rt: HostRuntime) -> Result<(), Fail> {
+    let alloc = rt.alloc();
+    let mut text = Vec::from_slice(alloc, b"const c,d:num;")?;
+    let mut lines = Vec::from_slice(alloc, b"profile 1;\nconst c: num;\nconst d: num;\n")?;
+    for _ in 0..40 {
+        text.extend_from_slice(b"query c<d;clause[x:num]c<x&1=1->false;")?;
+        lines.extend_from_slice(b"query c < d;\nclause [x:num] c < x & 1 = 1 -> false;\n")?;
+    }
+    let printed = transcribe(alloc, text.as_slice())?;
+    assert_eq!(rt; printed.as_slice(), lines.as_slice());
+    let printed = transcribe(alloc, b"")?;
+    assert_eq!(rt; printed.as_slice(), b"profile 1;\n".as_slice());
+    Ok(())
+}
+
+#[test]
 fn misplaced(rt: HostRuntime) {
     let cases: [(&[u8], usize); 10] = [
         (b"const c: num;\nquery c < ", 24),

@@ -8,9 +8,8 @@ ghost use Rattle.hp_read.specs.Spells.{Spells, IsFault};
 ghost use Rattle.hp_read.specs.declared.fault.ReadErr.TheVariants.{Memory};
 ghost use Rattle.hp_roundtrip.specs.Law.{Reprints};
 
-use hp_ast::print;
 use hp_num::Text;
-use hp_read::{ReadErr, read};
+use hp_read::{ReadErr, transcribe};
 use std::alloc::Global;
 
 /// The one printed text of the problem that the bytes spell: it spells the same problem.
@@ -23,11 +22,5 @@ pub fn reprint(alloc: Global, bytes: &[u8]) -> Result<Text, ReadErr>
     ensures fault { IfErr result (IsFault bytes.now) }
     ensures only { (p : Spelled) → Spells bytes.now p → (result ≡ Ok (problem_text p)) ⊎ (result ≡ Err Memory) }
 {
-    match read(alloc, bytes) {
-        Err(fault) => Err(fault),
-        Ok(problem) => match print(alloc, &problem) {
-            Err(_) => Err(ReadErr::Memory),
-            Ok(text) => Ok(text),
-        },
-    }
+    transcribe(alloc, bytes)
 }

@@ -1,7 +1,7 @@
 //! The reserved words and the signs.
 
 ghost use Rattle.std.specs.Prelude.{◌≡◌, ◌≤◌, length, IfSome};
-ghost use Rattle.hp_text.specs.Words.{word_kind, sign_of, first_among, short_signs};
+ghost use Rattle.hp_text.specs.Words.{word_kind, sign_of};
 
 use crate::token::Kind;
 
@@ -41,57 +41,27 @@ pub(crate) fn sign_at(bytes: &[u8]) -> Option<(Kind, usize)>
     ensures sign { result ≡ sign_of bytes.now }
     ensures within { IfSome result (λ s. s.1 ≤ length bytes.now) }
 {
-    if bytes.starts_with(b"<=") {
-        Some((Kind::LessEq, 2))
-    } else if bytes.starts_with(b"!=") {
-        Some((Kind::NotEqual, 2))
-    } else if bytes.starts_with(b">=") {
-        Some((Kind::GreaterEq, 2))
-    } else if bytes.starts_with(b"->") {
-        Some((Kind::Arrow, 2))
-    } else {
-        short_sign_at(bytes)
-    }
-}
-
-/// The kind and the length of the sign of one byte at the front.
-fn short_sign_at(bytes: &[u8]) -> Option<(Kind, usize)>
-    ensures sign { result ≡ first_among short_signs bytes.now }
-    ensures within { IfSome result (λ s. s.1 ≤ length bytes.now) }
-{
-    if bytes.starts_with(b"<") {
-        Some((Kind::Less, 1))
-    } else if bytes.starts_with(b"=") {
-        Some((Kind::Equal, 1))
-    } else if bytes.starts_with(b">") {
-        Some((Kind::Greater, 1))
-    } else if bytes.starts_with(b"&") {
-        Some((Kind::And, 1))
-    } else if bytes.starts_with(b"|") {
-        Some((Kind::Or, 1))
-    } else if bytes.starts_with(b"(") {
-        Some((Kind::OpenRound, 1))
-    } else if bytes.starts_with(b")") {
-        Some((Kind::CloseRound, 1))
-    } else if bytes.starts_with(b"[") {
-        Some((Kind::OpenSquare, 1))
-    } else if bytes.starts_with(b"]") {
-        Some((Kind::CloseSquare, 1))
-    } else if bytes.starts_with(b",") {
-        Some((Kind::Comma, 1))
-    } else if bytes.starts_with(b":") {
-        Some((Kind::Colon, 1))
-    } else if bytes.starts_with(b";") {
-        Some((Kind::Semicolon, 1))
-    } else if bytes.starts_with(b"+") {
-        Some((Kind::Plus, 1))
-    } else if bytes.starts_with(b"-") {
-        Some((Kind::Minus, 1))
-    } else if bytes.starts_with(b"*") {
-        Some((Kind::Star, 1))
-    } else if bytes.starts_with(b"/") {
-        Some((Kind::Slash, 1))
-    } else {
-        None
+    match bytes {
+        [b'<', b'=', ..] => Some((Kind::LessEq, 2)),
+        [b'!', b'=', ..] => Some((Kind::NotEqual, 2)),
+        [b'>', b'=', ..] => Some((Kind::GreaterEq, 2)),
+        [b'-', b'>', ..] => Some((Kind::Arrow, 2)),
+        [b'<', ..] => Some((Kind::Less, 1)),
+        [b'=', ..] => Some((Kind::Equal, 1)),
+        [b'>', ..] => Some((Kind::Greater, 1)),
+        [b'&', ..] => Some((Kind::And, 1)),
+        [b'|', ..] => Some((Kind::Or, 1)),
+        [b'(', ..] => Some((Kind::OpenRound, 1)),
+        [b')', ..] => Some((Kind::CloseRound, 1)),
+        [b'[', ..] => Some((Kind::OpenSquare, 1)),
+        [b']', ..] => Some((Kind::CloseSquare, 1)),
+        [b',', ..] => Some((Kind::Comma, 1)),
+        [b':', ..] => Some((Kind::Colon, 1)),
+        [b';', ..] => Some((Kind::Semicolon, 1)),
+        [b'+', ..] => Some((Kind::Plus, 1)),
+        [b'-', ..] => Some((Kind::Minus, 1)),
+        [b'*', ..] => Some((Kind::Star, 1)),
+        [b'/', ..] => Some((Kind::Slash, 1)),
+        _ => None,
     }
 }
