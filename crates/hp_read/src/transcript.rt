@@ -19,7 +19,7 @@ use std::alloc::{AllocError, Global};
 /// The printed text of the problem that the bytes spell: the line of the profile, then one line for each declaration and then for each
 /// clause, in their order. The faults of other bytes are those of `read`, and `Memory` may come at any bytes.
 ///
-/// The problem is never whole in memory: beside the text, which may be longer than the bytes, at most 32 clauses stand there.
+/// The problem is never whole in memory: beside the text, which may be longer than the bytes, at most four clauses stand there.
 pub fn transcribe(alloc: Global, bytes: &[u8]) -> Result<Text, ReadErr>
     ensures found { IfOk result (SpellsAsPrinted bytes.now) }
     ensures fault { IfErr result (IsFault bytes.now) }
@@ -60,7 +60,7 @@ fn go_on(
 }
 
 /// How many clauses stand in memory before those in front of the last one are given up.
-const ROOM: usize = 32;
+const ROOM: usize = 4;
 
 /// Puts all clauses but the last one at the end of the text, and drops them, where there are many.
 fn give_up(alloc: Global, made: &mut Problem, out: &mut Text) -> Result<(), AllocError>
