@@ -1,4 +1,4 @@
--- One more piece at the end of a joined text.
+-- One more piece at the end of a text whose first piece is put in another way.
 use Rattle.std.proofs.Common.{◌≡◌, ℕ, zero, suc, ◌+◌, ◌<◌, List, [], ◌∷◌, ◌++◌, take, length, get_or, arith, ap, ◌∙◌, append_assoc, append-nil, add-one, refl}
 use Rattle.std.specs.List.{flat_map, join_by}
 use Rattle.hp_base.specs.declared.literal.Lit.{Lit}
@@ -25,17 +25,6 @@ pub place_more : {X : Type 0} (f g : X → List ℕ) (xs : List X) (i : ℕ) (d 
 place_more f g [] i d h p = absurd (omega arith)
 place_more f g (x ∷ xs) zero d h p = absurd (omega arith)
 place_more f g (x ∷ xs) (suc i) d h p = rw add-one (ap (λ z. f x ++ z) (flat_map_more g xs i d (omega arith)) ∙ simp append_assoc)
-
-pub join_first : {X : Type 0} (f : X → List ℕ) (sep : List ℕ) (xs : List X) (i : ℕ) (d : X) → i < length xs → i ≡ 0
-    → join_by f sep (take (i + 1) xs) ≡ f (get_or xs i d)
-join_first f sep [] i d h e = absurd (omega arith)
-join_first f sep (x ∷ xs) i d h e = rw e (append-nil (f x))
-
-pub join_more : {X : Type 0} (f : X → List ℕ) (sep : List ℕ) (xs : List X) (i : ℕ) (d : X) → i < length xs → 0 < i
-    → join_by f sep (take (i + 1) xs) ≡ (join_by f sep (take i xs) ++ sep) ++ f (get_or xs i d)
-join_more f sep [] i d h p = absurd (omega arith)
-join_more f sep (x ∷ xs) zero d h p = absurd (omega arith)
-join_more f sep (x ∷ xs) (suc i) d h p = rw add-one (ap (λ z. f x ++ z) (flat_map_more (λ y. sep ++ f y) xs i d (omega arith)) ∙ simp append_assoc)
 
 -- a sum with a part, and a choice with a literal
 pub parts_some : (names : NameList) (parts : List Part) → 0 < length parts → parts_text names parts ≡ by_place (first_part names) (further_part names) parts

@@ -8,7 +8,6 @@ use Rattle.hp_bounds.proofs.Bounds as bounds
 use Rattle.hp_ground.specs.Answers.{IsFirstWide}
 use Rattle.hp_ground.specs.Ground.{IsGroundProblem}
 use Rattle.hp_norm.specs.Literals.{IsLight}
-use Rattle.hp_roundtrip.specs.Law.{Reprints}
 use Rattle.hp_scope.specs.Laws.{IsScopedProblem}
 use Rattle.hp_scope.proofs.Scope.{scope_by_sorts}
 use Rattle.hp_solve.specs.Solved.{IsInScope}
@@ -23,7 +22,7 @@ use Rattle.hp_cli.specs.declared.words.Task.{Task}
 use Rattle.hp_cli.specs.declared.words.Task.TheVariants.{Solve, Print}
 use Rattle.hp_cli.specs.Answer.{Does, Solves}
 use Rattle.hp_cli.specs.Refusals.{limit_text}
-use Rattle.hp_cli.specs.Verdicts.{InScope, IsCounted, IsRead, Misspelled, Printed, TooLong, coefficient}
+use Rattle.hp_cli.specs.Verdicts.{InScope, IsCounted, IsRead, Misspelled, TooLong, coefficient}
 
 -- ---- every task
 pub misspelled : (task : Task) (bytes text : List ℕ) → Misspelled bytes text → Does task bytes text Spelling
@@ -56,15 +55,6 @@ is_fault fault (Unknown item) h n = h
 is_fault fault (Arity item) h n = h
 is_fault fault (Mismatch item) h n = h
 is_fault fault Memory h n = absurd (n refl)
-
--- the printed text of a problem that was read
-pub printed_again : (bytes text : List ℕ) → length bytes ≤ 1048576 → Reprints bytes text → Printed bytes text
-printed_again bytes text size r = record {
-  problem = r.problem;
-  read = record { size = size; spelled = r.spelled };
-  written = r.printed;
-  respelled = r.respelled;
-}
 
 -- ---- what the forms of a well-sorted problem say of its sorts
 pub const_problem : (bytes : List ℕ) (p : Problem) → IsCounted bytes p → IsGroundProblem p → IsScopedProblem p

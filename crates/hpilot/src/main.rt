@@ -1,4 +1,4 @@
-//! Decides ground goals over index constants: the program over standard input and output.
+//! Decides ground goals over whole numbers and fractions, and prints problems: the program over standard input and output.
 #![tactic(auto)]
 
 ghost use Rattle.hpilot.specs.Exit.{IsExit};
