@@ -1,4 +1,4 @@
-//! The reader of problems: from the bytes of a text to its syntax tree, or to the first fault of the text.
+//! The reader of problems: from the bytes of a text to its syntax tree, or to its printed text, or to the first fault of the text.
 //! The grammar, what bytes spell, and what their fault is, `specs/` says, apart from the reader.
 #![tactic(auto)]
 

@@ -1,11 +1,11 @@
 //! Reading a text and printing its problem at the same time.
 //! Clauses are printed and given up once some more are whole, so the memory that is taken beside the text is that of a few clauses.
 
-ghost use Rattle.std.specs.Prelude.{Ok, ◌≡◌, ◌≢◌, ◌⊎◌, ◌++◌, IfOk, IfErr, OnOk, List as Items};
+ghost use Rattle.std.specs.Prelude.{Ok, ◌≡◌, ◌≢◌, ◌<◌, IfOk, IfErr, OnOk, length};
 ghost use Rattle.hp_text.specs.Tokens.{next_from};
 ghost use Rattle.hp_text.specs.Placed.{IsPlaced};
 ghost use Rattle.hp_text.specs.declared.token.Kind.TheVariants.{End};
-ghost use Rattle.hp_read.specs.Printed.{SpellsAsPrinted, IsPrinting, Follows, GivesUp, Holds};
+ghost use Rattle.hp_read.specs.Printed.{SpellsAsPrinted, IsPrinting, Follows, GivesUp};
 ghost use Rattle.hp_read.specs.Spells.{IsFault};
 
 use crate::fault::ReadErr;
@@ -64,7 +64,8 @@ const ROOM: usize = 4;
 
 /// Puts all clauses but the last one at the end of the text, and drops them, where there are many.
 fn give_up(alloc: Global, made: &mut Problem, out: &mut Text) -> Result<(), AllocError>
-    ensures { OnOk result (GivesUp out.old out.new made.old made.new) }
+    ensures given { OnOk result (GivesUp out.old out.new made.old made.new) }
+    ensures few { OnOk result (length made.new.clauses < 4) }
 {
     if made.clauses.len() < ROOM {
         return Ok(());

@@ -20,4 +20,4 @@ returns-in_ok-give_up-clause-read c =
     printing_given _ _ _ _ _ _ _ _ moved (elim c.match-matches.branch [
       | in-Whole w ↦ w.in-Whole.is
       | in_default w ↦ absurd (let no = w.matches-is in let yes = c.if-matches.true in cc)
-    ]) (c.in_ok-give_up.ensures)
+    ]) c.in_ok-give_up.ensures.given
