@@ -13,11 +13,11 @@ pub enum Which {
     Variables,
     /// Arguments of a function.
     Arguments,
-    /// Names of a ground set.
+    /// Names of a ground problem.
     Names,
-    /// Lines of a ground set.
+    /// Lines of a ground problem.
     Lines,
-    /// A number of a normal form, too large to be stored.
+    /// A number in the computation of a normal form, above 2^127 - 1 in magnitude.
     Coefficient,
 }
 
@@ -28,6 +28,7 @@ pub struct Limit {
     pub which: Which,
     /// How many there may be: 0 for a coefficient.
     pub most: u64,
-    /// The item in which a coefficient is too large, counted over declarations and clauses together: 0 for all else.
+    /// The item in which a coefficient is too large, counted from 1 over declarations and clauses together: 0 for all
+    /// else.
     pub item: u32,
 }

@@ -1,4 +1,5 @@
-//! Names, literals, lines and valuations: the ground side of a problem, and when a literal is true.
+//! Names, literals, lines and valuations: the ground side of a problem, and when a literal is true; and the parts of
+//! the evidence against literals.
 #![tactic(auto)]
 
 ghost use Rattle.hp_base.specs.Cycle.{NoIdxLeaf};

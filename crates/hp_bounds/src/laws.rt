@@ -8,7 +8,7 @@ pub fn few_items()
 {}
 
 /// The numbers of each atom of a problem that a text of at most 1,048,576 bytes spells stay below 10^25 together:
-/// the magnitudes of the numerators on both sides, those in arguments left out, add up to less.
+/// the magnitudes of the numerators on both sides, those in arguments and those that multiply left out, add up to less.
 pub fn light_numbers()
     ensures { LightNumbers }
 {}

@@ -35,7 +35,7 @@ fn finish<K: Sink>(sink: &mut K, text: &[u8], status: Status) -> Status
     }
 }
 
-/// The line that says how the program is used.
+/// Writes the line that says how the program is used.
 fn usage<K: Sink>(sink: &mut K) -> Status
     ensures status { (result ≡ Status.Usage) ⊎ ((result ≡ Status.WriteFault) ⊎ (result ≡ Status.Memory)) }
     ensures cause { result ≡ Status.WriteFault → Rose (K.faults sink.old) (K.faults sink.new) }

@@ -23,7 +23,8 @@ use std::cmp::Ordering;
 /// The chain lists rows of the literals, which count from 1 and fall; row 1 is that of t. At its point every row holds.
 /// `DescentErr::Strain` names the first number that passes 2^127 - 1 on the way to the values, as `decide_chain` does,
 /// or else in the sum, with the whole chain and `At::Literal` of line 0 and literal 0. `DescentErr::Memory` says that
-/// memory was wanting. Nothing is left behind.
+/// memory was wanting. Nothing is left behind. It asks for literals that `are_fit` takes, and
+/// for an `other` as `compare` does.
 pub fn value_at(
     alloc: Global,
     lits: &[NumLit],

@@ -28,7 +28,7 @@ use std::alloc::{AllocError, Global};
 /// literals, which count from 1 and rise: the left sides add to nothing, and the bounds to less than 0, or to 0 with a
 /// strict literal among those taken. `DescentErr::Strain` comes only where a number of the descent over the literals'
 /// rows passes 2^127 - 1, and names the first one; `DescentErr::Memory` says that memory was wanting. Nothing is left
-/// behind. The time may be exponential in the number of literals.
+/// behind. The time may be exponential in the number of literals. It asks for literals that `are_fit` takes.
 pub fn decide(alloc: Global, lits: &[NumLit]) -> Result<NumAnswer, DescentErr>
     requires { AreFit lits.now }
     ensures { Decides lits.now result }

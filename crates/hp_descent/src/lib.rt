@@ -1,7 +1,7 @@
 //! Literals over fractions, decided by dimension descent over their rows.
 //!
 //! `decide` answers values at which every literal is true, a combination of the literals that adds to nothing below 0,
-//! or the first number that is wider than 128 bits on a stated way.
+//! or the first number that passes 2^127 - 1 on a stated way.
 #![tactic(auto)]
 
 ghost use Rattle.hp_descent.specs.Laws.{ColumnsAreNames};

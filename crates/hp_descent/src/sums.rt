@@ -15,7 +15,8 @@ use hp_num::{Frac, Wide};
 use std::cmp::Ordering;
 
 /// How the sum of the literal's parts stands to its bound at these values: a name by its number, a name past the end
-/// with 0. The error is the first operation that passes 2^127 - 1.
+/// with 0. The error is the first operation that passes 2^127 - 1. It asks for a literal whose names rise strictly, with
+/// no number above 2^127 - 1 in magnitude.
 pub fn compare(v: &Valuation, other: &NumLit) -> Result<Ordering, Wide>
     requires { IsFit other.now }
     ensures exact { IfOk result (λ ordering. Stands ordering (parts_value v.now.values other.now.parts) (whole other.now.bound)) }
@@ -29,7 +30,7 @@ pub fn compare(v: &Valuation, other: &NumLit) -> Result<Ordering, Wide>
 }
 
 /// Whether the literal is true at these values: a name by its number, a name past the end with 0. The error is the
-/// first operation that passes 2^127 - 1.
+/// first operation that passes 2^127 - 1. It asks for a literal as `compare` does.
 pub fn holds(v: &Valuation, other: &NumLit) -> Result<bool, Wide>
     requires { IsFit other.now }
     ensures yes { result ≡ Ok true → NumIsTrue v.now.values other.now }

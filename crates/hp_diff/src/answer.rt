@@ -108,11 +108,12 @@ fn answer_of(
 /// `Point` has one value for each name that the rows mention, in rising order of names: whole numbers of a magnitude of
 /// at most 10^37. `Cycle` has steps over the rows, which count from 1: each step's right name is the next one's left
 /// name, the last one's right name is the first one's left name, only equalities are turned about, and the bounds add to
-/// less than 0. `Err` says that memory was wanting. Nothing else can be answered, and every call returns.
+/// less than 0. `Err` says that memory was wanting. Nothing else can be answered, and every call returns. It asks for at
+/// most 100,000 rows, with bounds of a magnitude of at most 10^25.
 ///
 /// Rows become edges between numbered names, and rounds over all edges lower values until nothing changes or a cycle
-/// shows (Bellman, On a routing problem, 1958). At worst this takes as many rounds as there are names, and memory for one
-/// label whenever a value falls.
+/// shows (Bellman, On a routing problem, 1958). At worst this takes one round more than there are names, and memory for
+/// one label whenever a value falls.
 pub fn decide(alloc: Global, rows: &[IdxLit]) -> Result<DiffAnswer, AllocError>
     requires few { length rows.now ≤ 100000 }
     requires bounds { All (λ row. IsSmallBound row.bound) rows.now }

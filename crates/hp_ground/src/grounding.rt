@@ -26,8 +26,8 @@ pub enum GroundRead {
     Other,
     /// The problem is over such constants, of which it declares more than 4,000.
     ManyNames,
-    /// A number of the normal form of an atom has a magnitude above 2^127 - 1: the item, counted from 1, that is the
-    /// first clause with such an atom. Items are the declarations and then the clauses.
+    /// A number in the computation of an atom's normal form is above 2^127 - 1 in magnitude: the item, counted from 1,
+    /// that is the first clause with such an atom. Items are the declarations and then the clauses.
     Wide(u32),
     /// Memory is short.
     Memory,
@@ -43,7 +43,10 @@ pub enum GroundRead {
 ///
 /// The form of the whole problem comes first, then the number of its constants, and then the numbers of its clauses
 /// one by one: `Other` comes exactly where the problem isn't such a problem, `ManyNames` only where it is one with more
-/// than 4,000 constants, and `Wide` only where it is one with fewer.
+/// than 4,000 constants, and `Wide` only where it is one with at most 4,000.
+///
+/// It asks for fewer than 2^28 declarations, at most 2,000 clauses, and a light problem: the magnitudes of the numerators
+/// of each atom, those in arguments and those that multiply left out, add up to less than 10^25.
 pub fn ground(alloc: Global, p: &Problem) -> GroundRead
     requires constants { length p.now.decls < 2 ^ 28 }
     requires clauses { length p.now.clauses ≤ 2000 }

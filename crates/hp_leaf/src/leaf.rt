@@ -17,7 +17,8 @@ use hp_num::Wide;
 /// Literals count from 1 along the path. The leaf's form is tested before anything is added: the numbers and kinds of
 /// its literals, the order of shares, its signs and its links. A leaf of wrong form is answered with `false`. Then the
 /// multiples of shares are added name by name and at last their bounds, as `hp_farkas::check_num` says, and the bounds
-/// of a cycle step by step. A conflict of pointers adds nothing. Takes no memory.
+/// of a cycle step by step. A conflict of pointers adds nothing. Takes no memory. It asks for bounds of a magnitude of at
+/// most 2^127 - 1 at the literals over whole numbers.
 pub fn check_leaf(path: &[Lit], proof: &LeafProof) -> Result<bool, Wide>
     requires bounds { All HasNarrowBound path.now }
     ensures checked { IsChecked path.now proof.now result }

@@ -21,7 +21,7 @@ pub fn closed_trees_refute()
     ensures { ClosedTreesRefute }
 {}
 
-/// An honest tree with an open place has fewer nodes than the product of one plus the literal counts.
+/// An honest tree with an open place has fewer splits and leaves than the product of one plus the literal counts.
 pub fn spent_trees_are_small()
     ensures { SpentTreesAreSmall }
 {}

@@ -20,7 +20,7 @@ use std::alloc::Global;
 /// A literal's parts are in the order of names, without a common divisor of all its numbers. Of `Other` and `Wide` the
 /// answer is what is met first, left before right and inner before outer: `Other` where the atom isn't of sort num over
 /// these constants, `Wide` at a number of the computation that has a magnitude above 2^127 - 1. At both nothing is added;
-/// at `Memory` the first of two literals may be there.
+/// at `Memory` the first of two literals may be there. It asks for at most 4,000 constants.
 pub fn literals(
     alloc: Global,
     index: &NameIndex,

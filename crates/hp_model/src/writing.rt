@@ -34,7 +34,7 @@ fn put_const(alloc: Global, out: &mut Text, constant: &ConstValue) -> Result<(),
 }
 
 /// The text of a structure without tables: `universe N`, and then `const NAME = VALUE` for each constant in order,
-/// each line ended by one LF.
+/// each line ended by one LF. An `Err` comes where memory is short.
 pub fn write_structure(alloc: Global, structure: &Structure) -> Result<Text, AllocError>
     requires { structure.now.tables ≡ [] }
     ensures { IfOk result (λ text. text ≡ structure_text structure.now) }

@@ -37,7 +37,9 @@ pub enum Step {
 /// Every bound is at most 10^25 in magnitude. `Other` comes only where the atom isn't of sort idx over these constants:
 /// both sides are index terms, and one of them has a name. An index term is a whole number or the negation of one, a
 /// constant, the sum of an index term and a whole number in either order, or an index term without a whole number.
-/// `Wide` comes only where the numbers of the atom, added together by magnitude, come to 10^25 or more.
+/// `Wide` comes only where the magnitudes of the atom's numerators, those in arguments and those that multiply left out, add
+/// up to 10^25 or more. At `Wide` and at `Memory` the first of two literals may be there. It asks for fewer than 2^28
+/// constants.
 pub fn literals(index: &NameIndex, side: Side, atom: &Atom, lits: &mut List<Lit>) -> Step
     requires { length index.now < 2 ^ 28 }
     ensures { AtomPushed index.now side atom.now lits.old lits.new result }
@@ -51,7 +53,8 @@ pub fn literals(index: &NameIndex, side: Side, atom: &Atom, lits: &mut List<Lit>
     }
 }
 
-/// Whether an atom whose numbers are small together is of sort idx over these constants.
+/// Whether an atom is of sort idx over these constants. It asks for fewer than 2^28 constants, and that the magnitudes of
+/// the atom's numerators, those in arguments and those that multiply left out, add up to less than 10^25.
 pub fn is_index_atom(index: &NameIndex, atom: &Atom) -> bool
     requires few { length index.now < 2 ^ 28 }
     requires light { IsLightAtom atom.now }

@@ -156,8 +156,8 @@ fn named(index: &NameIndex, name: &[u8]) -> Shape
     }
 }
 
-/// What a term is among the index terms over these constants, or `None` where its numbers, added together by
-/// magnitude, pass 10^25.
+/// What a term is among the index terms over these constants, or `None` where a number on the way passes 10^25 in
+/// magnitude, which comes only where the magnitudes of its numerators, added together, do.
 pub fn collect(index: &NameIndex, term: &Term) -> Option<Shape>
     requires { length index.now < 2 ^ 28 }
     ensures { MatchOption result (weight term.now ≤ 10 ^ 25 → ⊥) (λ shape. (shape ≡ shape_of index.now term.now) × IsSmallShape (shape_of index.now term.now)) }

@@ -1,8 +1,9 @@
 //! The literals over fractions of a path, decided by components: literals that share no name, directly or through
 //! others, are decided apart from each other.
 //!
-//! The descent may take a time that doubles with each literal. Over literals that share no name it would take the product
-//! of the times of the components, and here it takes their sum.
+//! Each component goes to the simplex, and to the descent where that gives up, which may take a time that doubles with
+//! each literal. Over literals that share no name it would take the product of the times of the components, and here it
+//! takes their sum.
 ghost use Rattle.std.specs.Prelude.{◌≡◌, ◌≤◌, ◌+◌, IfOk, length, map, false, replicate};
 ghost use Rattle.std.specs.List.{All, filter};
 ghost use Rattle.hp_base.specs.Names.{sorts};

@@ -31,7 +31,12 @@ pub enum Decision {
 ///
 /// `Values` has a value for each name: whole numbers of a magnitude of at most 10^37 for names of sort idx; for names of
 /// sort num those of the point of the chain, and 0 where a name occurs in no literal. `Leaf` is valid. `Strain` comes only
-/// where a number of the descent over the literals over fractions passes 2^127 - 1, and names the first one.
+/// where a number of the descent over the literals over fractions passes 2^127 - 1, and names the first one; `Memory` says
+/// that memory was wanting.
+///
+/// It asks for at most 100,000 literals. Each is over fractions, of names of sort num that rise strictly and with no number
+/// above 2^127 - 1 in magnitude, or over whole numbers, of names of sort idx and with a bound of a magnitude of at most
+/// 10^25.
 pub fn decide(alloc: Global, names: &Names, lits: &[Lit]) -> Result<Decision, DescentErr>
     requires built { All (IsBuilt (sorts names.now)) lits.now }
     requires few { length lits.now ≤ 100000 }

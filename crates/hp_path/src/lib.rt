@@ -1,4 +1,5 @@
-//! The literals of a path, decided by the engine of each sort: values that make all of them true, or a valid leaf.
+//! The literals of a path, decided by the engine of each sort: values that make all of them true, a valid leaf, or a
+//! strain over the literals over fractions.
 #![tactic(auto)]
 
 mod components;

@@ -29,7 +29,8 @@ pub enum Quick {
 /// Decides literals over whole numbers and over fractions, as quickly as can be.
 ///
 /// `Values` has a value for each name: whole numbers of a magnitude of at most 10^37 for names of sort idx, fractions for
-/// names of sort num. `Leaf` is valid. `Unknown` says nothing.
+/// names of sort num. `Leaf` is valid. `Unknown` says nothing. `Err` says that memory was wanting. It asks for literals as
+/// `decide` does.
 pub fn decide_quickly(alloc: Global, names: &Names, lits: &[Lit]) -> Result<Quick, AllocError>
     requires built { All (IsBuilt (sorts names.now)) lits.now }
     requires few { length lits.now ≤ 100000 }

@@ -1,5 +1,6 @@
 //! Reading a text and printing its problem at the same time.
-//! Clauses are printed and given up once some more are whole, so the memory that is taken beside the text is that of a few clauses.
+//! Clauses are printed and given up once four are whole, so the memory that is taken beside the text is that of the declarations and
+//! of a few clauses.
 
 ghost use Rattle.std.specs.Prelude.{Ok, ◌≡◌, ◌≢◌, ◌<◌, IfOk, IfErr, OnOk, length};
 ghost use Rattle.hp_text.specs.Tokens.{next_from};
@@ -19,7 +20,7 @@ use std::alloc::{AllocError, Global};
 /// The printed text of the problem that the bytes spell: the line of the profile, then one line for each declaration and then for each
 /// clause, in their order. The faults of other bytes are those of `read`, and `Memory` may come at any bytes.
 ///
-/// The problem is never whole in memory: beside the text, which may be longer than the bytes, at most four clauses stand there.
+/// Beside the text, which may be longer than the bytes, the declarations and at most four clauses stand in memory.
 pub fn transcribe(alloc: Global, bytes: &[u8]) -> Result<Text, ReadErr>
     ensures found { IfOk result (SpellsAsPrinted bytes.now) }
     ensures fault { IfErr result (IsFault bytes.now) }
@@ -36,7 +37,7 @@ pub fn transcribe(alloc: Global, bytes: &[u8]) -> Result<Text, ReadErr>
     }
 }
 
-/// The reader goes behind one more token of the bytes, and gives up the clauses before the last one.
+/// The reader goes behind one more token of the bytes, and gives up the clauses before the last one where four are whole.
 fn go_on(
     alloc: Global,
     bytes: &[u8],
@@ -62,7 +63,7 @@ fn go_on(
 /// How many clauses stand in memory before those in front of the last one are given up.
 const ROOM: usize = 4;
 
-/// Puts all clauses but the last one at the end of the text, and drops them, where there are many.
+/// Puts all clauses but the last one at the end of the text, and drops them, where there are at least four.
 fn give_up(alloc: Global, made: &mut Problem, out: &mut Text) -> Result<(), AllocError>
     ensures given { OnOk result (GivesUp out.old out.new made.old made.new) }
     ensures few { OnOk result (length made.new.clauses < 4) }

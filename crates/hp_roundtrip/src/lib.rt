@@ -1,5 +1,5 @@
 //! Reading and printing are inverse to one another: the printed text of a problem that some text spells
-//! spells that problem again.
+//! spells that problem again. `reprint` answers that text for bytes that are given.
 #![tactic(auto)]
 
 mod laws;

@@ -39,7 +39,7 @@ fn zeros(alloc: Global, width: usize) -> Result<List<Frac>, AllocError>
     Ok(point)
 }
 
-/// The sum of coefficient times value, in column order.
+/// The sum of coefficient times value, in column order. The error is the first operation that passes 2^127 - 1.
 pub fn left_side(coefs: &[Whole], point: &[Frac]) -> Result<Frac, Wide>
     requires { length coefs.now ≡ length point.now }
     ensures { result ≡ left_of (whole (pos 0)) coefs.now point.now }
@@ -75,7 +75,8 @@ pub fn point_of(alloc: Global, width: usize, lines: &[List<Whole>]) -> Result<Li
 }
 
 /// The coordinates before the last one, each over the last, in their order. With homogeneous rows, whose last column is
-/// the number that scales the bounds, these are the values of the other columns.
+/// the number that scales the bounds, these are the values of the other columns. The error is the first operation that
+/// passes 2^127 - 1, or want of memory. It asks that the last coordinate isn't 0.
 pub fn values(alloc: Global, point: &[Frac]) -> Result<List<Frac>, Fail>
     requires { at_point point.now (length point.now - 1) ≢ whole (pos 0) }
     ensures told { Tells result (values_of (length point.now - 1) point.now) }

@@ -1,7 +1,7 @@
 //! Rows of whole coefficients with a bound, decided over the fractions by dimension descent.
 //!
 //! `descend` answers a point at which every row holds, a combination of the rows that contradicts them, or the first
-//! number that is wider than 128 bits on a stated way.
+//! number that passes 2^127 - 1 on a stated way.
 #![tactic(auto)]
 
 ghost use Rattle.hp_rows.specs.Laws.{ChainIsPositive, ContradictionsRefute, PointsAreExact, PointsMeetChains};

@@ -1,5 +1,5 @@
 //! A search for values that make every line of a ground problem true, with a tree of splits as its evidence where
-//! there are none or where it is given up.
+//! there are none or where it is given up, or a strain where a number is too wide.
 #![tactic(auto)]
 
 mod literals;

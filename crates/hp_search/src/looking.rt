@@ -78,7 +78,7 @@ fn are_shares_within(shares: &[Share], count: usize) -> bool
     true
 }
 
-/// Whether a leaf names no literal after the first `count`.
+/// Whether a leaf names no literal after the first `count`; false for a leaf over pointers.
 fn is_within(proof: &LeafProof, count: usize) -> bool
     ensures { result ≡ true → IsLeafWithin count proof.now }
 {
@@ -139,7 +139,8 @@ fn decide_ahead(
     }
 }
 
-/// The last literal of each line that has one: of a clause, the last atom of its head.
+/// The last literal of each line that has one: for a clause, one of the last atom of its head, or of its guard where the
+/// head has no atom.
 fn last_choices(alloc: Global, g: &Ground) -> Result<List<Choice>, AllocError>
     requires lines { length g.now.lines ≤ 50000 }
     ensures { IfOk result (λ last. length last ≤ length g.now.lines) }

@@ -38,7 +38,8 @@ fn sibling(g: &Ground, choice: Choice) -> Result<Option<Choice>, AllocError>
     }
 }
 
-/// Goes on to the next place that waits; false where there is none.
+/// Goes on to the next place that waits; false where there is none. An `Err` comes where memory is short, or the number of
+/// a literal in its line has more than 32 bits.
 #[tactic(auto, using(crate::proofs::Waiting::passed_over, crate::proofs::Waiting::went_on))]
 pub fn go_on(g: &Ground, path: &mut List<Choice>) -> Result<bool, AllocError>
     ensures { IfOk result (λ more. MovedOn g.now.lines (later g.now.lines [] path.old) path.new more) }
@@ -55,7 +56,7 @@ pub fn go_on(g: &Ground, path: &mut List<Choice>) -> Result<bool, AllocError>
     Ok(false)
 }
 
-/// Goes down to the first literal of a line, or on where the line has none.
+/// Goes down to the first literal of a line, or on where the line has none. An `Err` comes as from `go_on`.
 #[tactic(auto, using(crate::proofs::Waiting::went_down, crate::proofs::Waiting::went_past))]
 pub fn enter(g: &Ground, path: &mut List<Choice>, line: u32) -> Result<bool, AllocError>
     ensures { IfOk result (λ more. MovedOn g.now.lines (children path.old line 0 (length (lits_at g.now.lines line)) ++ later g.now.lines [] path.old) path.new more) }
@@ -67,7 +68,7 @@ pub fn enter(g: &Ground, path: &mut List<Choice>, line: u32) -> Result<bool, All
     Ok(true)
 }
 
-/// Writes an unopened place for each place that waits.
+/// Writes an unopened place for each place that waits. An `Err` comes as from `go_on`.
 pub fn leave(g: &Ground, tree: &mut List<Node>, path: &mut List<Choice>) -> Result<(), AllocError>
     ensures { OnOk result (tree.new ≡ tree.old ++ replicate (length (path.old ∷ later g.now.lines [] path.old)) Unopened) }
 {

@@ -143,7 +143,8 @@ fn search_places(
     Ok(Found::Spent(tree))
 }
 
-/// Searches for values that make every line true, with at most `most` splits and leaves.
+/// Searches for values that make every line true, with at most `most` splits and leaves. A tree of lines of one literal
+/// that can't all be true is made before that, and may have more.
 ///
 /// `Model` has a value for each name, of the name's sort, those of index names of a magnitude of at most 10^37. They
 /// make every line true. Where `exact`, those of sort num are what the point of its chain gives, and 0 where a name occurs in

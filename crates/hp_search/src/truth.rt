@@ -214,7 +214,9 @@ fn verdict_of(best: Option<Candidate>, wide_sum: Option<WideSum>) -> Verdict
     }
 }
 
-/// A line that the values leave false: one of the suspects where there is such, and else one of the shortest.
+/// A line that the values leave false: one of the suspects where there is such, and else one of the shortest. Where no
+/// line is false, a literal whose sum is too wide, or that every line is true. `Err` where the number of such a literal
+/// in its line has more than 32 bits.
 pub fn first_false(g: &Ground, v: &Valuation, suspects: &[u32]) -> Result<Verdict, AllocError>
     requires readable { All (AreReadable v.now.values) g.now.lines }
     requires lines { length g.now.lines ≤ 50000 }

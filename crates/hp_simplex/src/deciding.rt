@@ -21,9 +21,10 @@ use std::alloc::{AllocError, Global};
 /// `Point` has one value for each name that occurs in the literals, in rising order of names. `Farkas` has multipliers
 /// of literals, which count from 1 and rise: the left sides add to nothing, and the bounds to less than 0, or to 0 with
 /// a strict literal among those taken. These come from the simplex. Where it gives up, since a number passes 2^127 - 1
-/// or more pivots are made than 50 for each row and column, the answer is that of `hp_descent::decide`, whose time may
-/// be exponential: `DescentErr::Strain` comes only from there. `DescentErr::Memory` says that memory was wanting.
-/// Nothing is left behind.
+/// or more pivots are made than 50 for each row and column, or where the checks don't let its answer through, the answer
+/// is that of `hp_descent::decide`, whose time may be exponential: `DescentErr::Strain` comes only from there.
+/// `DescentErr::Memory` says that memory was wanting. Nothing is left behind. It asks for literals that
+/// `hp_descent::are_fit` takes.
 pub fn decide(alloc: Global, lits: &[NumLit]) -> Result<NumAnswer, DescentErr>
     requires { AreFit lits.now }
     ensures { Decides lits.now result }

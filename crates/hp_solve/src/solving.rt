@@ -110,7 +110,7 @@ fn unfinished(p: &Problem, g: &Ground, error: SearchErr) -> Solved
 /// wanting.
 ///
 /// It asks for at least one split or leaf, fewer than 2^28 declarations, at most 2,000 clauses, and a light problem: the
-/// numerators of each atom add up to less than 10^25.
+/// magnitudes of the numerators of each atom, those in arguments and those that multiply left out, add up to less than 10^25.
 pub fn solve(alloc: Global, p: &Problem, most: u64) -> Solved
     requires most { 1 ≤ most }
     requires declarations { length p.now.decls < 2 ^ 28 }
