@@ -1,5 +1,5 @@
 -- A structure that fits a problem: it has exactly the constants of the problem, in the order of their declarations, with
--- values of their sorts. No problem declares functions so far, so a structure that fits has no tables.
+-- values of their sorts. It is said of problems that declare no functions, so a structure that fits has no tables.
 use Rattle.std.specs.Prelude.{◌≡◌, ℕ, ◌≤◌, List, [], ◌∷◌, Bool, true, ◌&&◌, pos, IsTrue}
 use Rattle.hp_math.specs.Rational.{ℚ, whole, is_whole, lt_ℚ, le_ℚ}
 use Rattle.hp_ast.specs.declared.problem.Sort.{Sort}

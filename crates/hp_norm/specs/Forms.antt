@@ -89,7 +89,7 @@ IsSmallShape (Number k) = IsSmall k
 IsSmallShape (Sum form) = IsSmall form.offset
 IsSmallShape Other = Unit {0}
 
--- the magnitudes of the numerators of all numbers of a term, outside of arguments, added together
+-- the magnitudes of the numerators of the numbers of a term added together, those in arguments and those that multiply left out
 abbrev pub weight_step : Term-F ℕ → ℕ
 weight_step (Term-F.Number q) = unsigned_abs q.num
 weight_step Term-F.Null = 0

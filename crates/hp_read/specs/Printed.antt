@@ -1,4 +1,4 @@
--- Reading where clauses are printed as soon as they are whole: a state holds the later clauses alone, and a text has the earlier ones.
+-- Reading where clauses that are whole are printed and given up: a state holds the later clauses alone, and a text has the earlier ones.
 use Rattle.std.specs.Prelude.{◌≡◌, ℕ, List, [], ◌∷◌, ◌++◌, ◌⊎◌}
 use Rattle.hp_ast.specs.declared.problem.Clause.{Clause}
 use Rattle.hp_ast.specs.declared.problem.Problem.{Problem}
