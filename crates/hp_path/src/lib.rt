@@ -2,6 +2,7 @@
 //! strain over the literals over fractions.
 #![tactic(auto)]
 
+mod built;
 mod components;
 mod deciding;
 mod labels;
@@ -10,6 +11,7 @@ mod placing;
 mod quick;
 mod rows;
 
+pub use built::are_built;
 pub use deciding::{Decision, decide};
 pub use quick::{Quick, decide_quickly};
 

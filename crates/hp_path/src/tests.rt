@@ -1,22 +1,14 @@
 //! What is decided with ample memory of literals whose answers are known by hand.
-ghost use Rattle.std.specs.Prelude.{◌≡◌, ◌+◌, ◌≤◌, OnOk, Some, [], length, slice_get, true};
-ghost use Rattle.std.specs.List.{All};
-ghost use Rattle.hp_ast.specs.declared.problem.Sort.TheVariants.{Num};
-ghost use Rattle.hp_base.specs.Names.{sorts};
-ghost use Rattle.hp_path.specs.Built.{IsBuilt, IsIdxSide, IsNumOver, IsRowOver};
+ghost use Rattle.std.specs.Prelude.{◌≡◌, ◌+◌, ◌≤◌, OnOk, [], length};
 
-use crate::{Decision, Quick, decide, decide_quickly};
+use crate::{Decision, Quick, are_built, decide, decide_quickly};
 use hp_ast::Sort;
 use hp_base::{IdxLit, Lit, Name, Names, NumLit, Part, Rel, Valuation};
-use hp_descent::{DescentErr, are_fit};
+use hp_descent::DescentErr;
 use hp_leaf::LeafProof;
 use hp_num::{List, Text};
 use std::alloc::{AllocError, Global};
-use std::slice;
 use std::test::Fail;
-
-/// The largest magnitude of a bound on whole numbers.
-const LARGEST: i128 = 10_000_000_000_000_000_000_000_000;
 
 /// 2^100, whose square passes 128 bits.
 const LONG: i128 = 1_267_650_600_228_229_401_496_703_205_376;
@@ -61,62 +53,6 @@ fn num(rel: Rel, name: u32, coef: i128, bound: i128) -> Side {
         coef,
         bound,
     }
-}
-
-fn is_idx_side(names: &Names, side: Option<Name>) -> bool
-    ensures { result ≡ true → IsIdxSide (sorts names.now) side }
-{
-    match side {
-        None => true,
-        Some(name) => (name.0 as u64) < names.count() && names.sort(name) == Sort::Idx,
-    }
-}
-
-fn is_row(names: &Names, row: IdxLit) -> bool
-    ensures { result ≡ true → IsRowOver (sorts names.now) row }
-{
-    -LARGEST <= row.bound
-        && row.bound <= LARGEST
-        && is_idx_side(names, row.left)
-        && is_idx_side(names, row.right)
-}
-
-fn are_num(names: &Names, parts: &[Part]) -> bool
-    ensures { result ≡ true → All (λ part. slice_get (sorts names.now) part.name.0 ≡ Some Num) parts.now }
-{
-    for part in parts {
-        if part.name.0 as u64 >= names.count() || names.sort(part.name) != Sort::Num {
-            return false;
-        }
-    }
-    true
-}
-
-fn is_num(names: &Names, num: &NumLit) -> bool
-    ensures { result ≡ true → IsNumOver (sorts names.now) num.now }
-{
-    are_fit(slice::from_ref(num)) && are_num(names, num.parts.as_slice())
-}
-
-fn is_built(names: &Names, lit: &Lit) -> bool
-    ensures { result ≡ true → IsBuilt (sorts names.now) lit.now }
-{
-    match lit {
-        Lit::Idx(row) => is_row(names, *row),
-        Lit::Num(num) => is_num(names, num),
-        Lit::Ptr(_) => false,
-    }
-}
-
-fn are_built(names: &Names, lits: &[Lit]) -> bool
-    ensures { result ≡ true → All (IsBuilt (sorts names.now)) lits.now }
-{
-    for lit in lits {
-        if !is_built(names, lit) {
-            return false;
-        }
-    }
-    true
 }
 
 fn add(alloc: Global, names: &mut Names, sort: Sort, count: u32) -> Result<(), AllocError>

@@ -10,7 +10,7 @@ use Rattle.hp_search.proofs.tests.are_lines.Goals as goal
 pub loop-line-preserved : goal.loop-line-preserved
 loop-line-preserved c =
     let P = λ (line : Line). AreBuilt (sorts c.args.names.now) line.lits in
-    All-more P c.args.lines.now c.loop-line.line-index c.line-item.result c.loop-line-test.true c.loop-line.invariant (subst P c.line-item.is (subst (AreBuilt (sorts c.args.names.now)) c.as_slice.ensures (c.are_built.ensures c.if-not-are_built.false)))
+    All-more P c.args.lines.now c.loop-line.line-index c.line-item.result c.loop-line-test.true c.loop-line.invariant (subst P c.line-item.is (subst (AreBuilt (sorts c.args.names.now)) c.as_slice.ensures (c.are_built.ensures.0 c.if-not-are_built.false)))
 
 pub returns : goal.returns
 returns c = λ _.
