@@ -81,6 +81,19 @@ def linear(rng, count, names, low, high):
     return lines
 
 
+def large(rng, count, names):
+    """Rows of three names with coefficients of up to four digits, which one assignment makes true."""
+    values = [rng.randrange(-50, 50) for _ in range(names)]
+    lines = num_constants(names)
+    for _ in range(count):
+        chosen = sorted(rng.sample(range(names), 3))
+        coefficients = [rng.randrange(1, 10_000) * rng.choice([-1, 1]) for _ in chosen]
+        bound = sum(c * values[i] for c, i in zip(coefficients, chosen)) + rng.randrange(10_000)
+        left = " + ".join(f"{c} * c{i}" for c, i in zip(coefficients, chosen)).replace("+ -", "- ")
+        lines.append(f"query {left} <= {bound};")
+    return lines
+
+
 def apart(count):
     """A bound on each of so many names."""
     return num_constants(count) + [f"query c{i} < 0;" for i in range(count)]
@@ -114,6 +127,8 @@ def main():
     write("linear.hp", linear(random.Random(1), 60, 20, -10, 10))
     write("linear-loose.hp", linear(random.Random(2), 60, 20, 2, 30))
     write("linear-tight.hp", linear(random.Random(3), 60, 20, -2, 10))
+    write("large-10.hp", large(random.Random(5), 20, 10))
+    write("large-20.hp", large(random.Random(5), 40, 20))
     write("apart.hp", apart(1900))
     write("num-chain.hp", num_chain(60, False))
     write("num-ring.hp", num_chain(60, True))
