@@ -1,4 +1,5 @@
-//! The decision: the simplex, the checks of its answer, and the descent where there is none.
+//! The decision: the simplex, the relaxation where that gives up, the checks of their answers, and the descent where there
+//! is none.
 ghost use Rattle.std.specs.Prelude.{◌≡◌, IfOk, IfSome, map};
 ghost use Rattle.hp_descent.specs.Answers.{Decides};
 ghost use Rattle.hp_descent.specs.Columns.{AreFit, columns};
@@ -8,6 +9,7 @@ use crate::bounds::bounds_of;
 use crate::checks::{Attempt, checked_shares, checked_values};
 use crate::conflict::shares_of;
 use crate::halt::Halt;
+use crate::relaxing::relax;
 use crate::search::{Outcome, search};
 use crate::solution::numbers_of;
 use crate::tableau::tableau_of;
@@ -21,8 +23,9 @@ use std::alloc::{AllocError, Global};
 /// `Point` has one value for each name that occurs in the literals, in rising order of names. `Farkas` has multipliers
 /// of literals, which count from 1 and rise: the left sides add to nothing, and the bounds to less than 0, or to 0 with
 /// a strict literal among those taken. These come from the simplex. Where it gives up, since a number passes 2^127 - 1
-/// or more pivots are made than 50 for each row and column, or where the checks don't let its answer through, the answer
-/// is that of `hp_descent::decide`, whose time may be exponential: `DescentErr::Strain` comes only from there.
+/// or more pivots are made than 50 for each row and column, values with short numbers are looked for by relaxation. Where
+/// none are found, or where the checks don't let an answer through, the answer is that of `hp_descent::decide`, whose time
+/// may be exponential: `DescentErr::Strain` comes only from there.
 /// `DescentErr::Memory` says that memory was wanting. Nothing is left behind. It asks for literals that
 /// `hp_descent::are_fit` takes.
 pub fn decide(alloc: Global, lits: &[NumLit]) -> Result<NumAnswer, DescentErr>
@@ -44,19 +47,44 @@ enum Found {
     Shares(List<Share>),
 }
 
-/// The answer of the simplex, where it has one that the checks let through.
+/// The answer of the simplex, or of the relaxation where that gives up, where the checks let it through.
 fn attempt(alloc: Global, lits: &[NumLit]) -> Result<Attempt, AllocError>
     ensures { IfOk result (λ attempt. IsRight lits.now attempt) }
 {
     let names = columns_of(alloc, lits)?;
     match simplex(alloc, &names, lits) {
-        Ok(Found::Numbers(numbers)) => match named(alloc, &names, &numbers)? {
-            Some(values) => Ok(checked_values(values, lits)),
-            None => Ok(Attempt::Unknown),
-        },
+        Ok(Found::Numbers(numbers)) => point_of(alloc, &names, &numbers, lits),
         Ok(Found::Shares(shares)) => checked_shares(alloc, shares, lits),
+        Err(Halt::Unknown) => relaxed(alloc, &names, lits),
+        Err(Halt::Memory) => Err(AllocError),
+    }
+}
+
+/// The answer of the relaxation, where it has one that the checks let through.
+fn relaxed(alloc: Global, names: &[u32], lits: &[NumLit]) -> Result<Attempt, AllocError>
+    requires { names.now ≡ columns lits.now }
+    ensures { IfOk result (λ attempt. IsRight lits.now attempt) }
+{
+    match relax(alloc, names, lits) {
+        Ok(numbers) => point_of(alloc, names, &numbers, lits),
         Err(Halt::Unknown) => Ok(Attempt::Unknown),
         Err(Halt::Memory) => Err(AllocError),
+    }
+}
+
+/// The numbers as values of the names, where every literal is true at them.
+fn point_of(
+    alloc: Global,
+    names: &[u32],
+    numbers: &[Frac],
+    lits: &[NumLit],
+) -> Result<Attempt, AllocError>
+    requires { names.now ≡ columns lits.now }
+    ensures { IfOk result (λ attempt. IsRight lits.now attempt) }
+{
+    match named(alloc, names, numbers)? {
+        Some(values) => Ok(checked_values(values, lits)),
+        None => Ok(Attempt::Unknown),
     }
 }
 

@@ -1,7 +1,8 @@
-//! Literals over fractions, decided by the simplex method, and by the descent over their rows where that gives up.
+//! Literals over fractions, decided by the simplex method, by relaxation where that gives up, and by the descent over their
+//! rows where both do.
 //!
-//! The simplex itself is only proved safe and ending. Its answer is checked before it is given: values by summing each
-//! literal at them, a combination by the check of Farkas combinations. The promise rests on these checks alone.
+//! Simplex and relaxation are only proved safe and ending. Their answers are checked before they are given: values by
+//! summing each literal at them, a combination by the check of Farkas combinations. The promise rests on these checks alone.
 #![tactic(auto)]
 
 mod bounds;
@@ -10,6 +11,7 @@ mod conflict;
 mod deciding;
 mod halt;
 mod pivot;
+mod relaxing;
 mod search;
 mod solution;
 mod tableau;

@@ -152,3 +152,40 @@ fn long_numbers_are_left_to_the_descent(rt: HostRuntime) -> Result<(), Fail> {
     assert_eq!(rt; numbers.as_slice(), [0, -1, LONG, 1, 0, 1].as_slice());
     Ok(())
 }
+
+#[test]
+fn long_coefficients_leave_short_values(rt: HostRuntime) -> Result<(), Fail> {
+    // true at 9, 8 and -5, while the point where all three are equations has numbers of more than 38 digits
+    let lits = literals(
+        rt.alloc(),
+        &[
+            (
+                Rel::Le,
+                &[
+                    (0, -66716320825598),
+                    (1, 1853731934782),
+                    (2, -77516683675205),
+                ],
+                -131849382384671,
+            ),
+            (
+                Rel::Lt,
+                &[
+                    (0, 67042505171160),
+                    (1, -32638103374918),
+                    (2, -54879044187185),
+                ],
+                639105829676974,
+            ),
+            (
+                Rel::Le,
+                &[(0, 6024082902379), (1, 4367037175770), (2, 83702353106327)],
+                -269272468411650,
+            ),
+        ],
+    )?;
+    let answer = asked(rt.alloc(), lits.as_slice());
+    let numbers = numbers_in(rt.alloc(), &answer)?;
+    assert_eq!(rt; numbers.len(), 9);
+    Ok(())
+}
