@@ -81,14 +81,14 @@ def linear(rng, count, names, low, high):
     return lines
 
 
-def large(rng, count, names):
-    """Rows of three names with coefficients of up to four digits, which one assignment makes true."""
+def large(rng, count, names, least):
+    """Rows of three names with coefficients of up to four digits, whose bounds leave at least so much room at some values."""
     values = [rng.randrange(-50, 50) for _ in range(names)]
     lines = num_constants(names)
     for _ in range(count):
         chosen = sorted(rng.sample(range(names), 3))
         coefficients = [rng.randrange(1, 10_000) * rng.choice([-1, 1]) for _ in chosen]
-        bound = sum(c * values[i] for c, i in zip(coefficients, chosen)) + rng.randrange(10_000)
+        bound = sum(c * values[i] for c, i in zip(coefficients, chosen)) + rng.randrange(least, 10_000)
         left = " + ".join(f"{c} * c{i}" for c, i in zip(coefficients, chosen)).replace("+ -", "- ")
         lines.append(f"query {left} <= {bound};")
     return lines
@@ -127,8 +127,10 @@ def main():
     write("linear.hp", linear(random.Random(1), 60, 20, -10, 10))
     write("linear-loose.hp", linear(random.Random(2), 60, 20, 2, 30))
     write("linear-tight.hp", linear(random.Random(3), 60, 20, -2, 10))
-    write("large-10.hp", large(random.Random(5), 20, 10))
-    write("large-20.hp", large(random.Random(5), 40, 20))
+    write("large-10.hp", large(random.Random(5), 20, 10, 0))
+    write("large-20.hp", large(random.Random(5), 40, 20, 0))
+    write("large-late-10.hp", large(random.Random(1), 60, 10, -10_000))
+    write("large-late-15.hp", large(random.Random(1), 90, 15, -10_000))
     write("apart.hp", apart(1900))
     write("num-chain.hp", num_chain(60, False))
     write("num-ring.hp", num_chain(60, True))
