@@ -2,7 +2,7 @@
 
 ghost use Rattle.std.specs.Prelude.{◌≡◌, ◌<◌, ◌++◌, [], ◌∷◌, false, IfOk, IfSome, OnErr, OnOk, is_some, length, position};
 ghost use Rattle.std.specs.Str.{bytes_eq};
-ghost use Rattle.hp_names.specs.Names.{Added, is_among};
+ghost use Rattle.hp_names.specs.Names.{Added, AreDistinct, is_among};
 
 use indexmap::IndexSet;
 use std::alloc::{AllocError, Global};
@@ -16,10 +16,13 @@ pub struct NameIndex {
 
 impl Model for NameIndex {
     ghost use Rattle.std.specs.Prelude.{List, ℕ, map};
+    ghost use Rattle.hp_names.specs.Names.{AreDistinct};
 
     ghost Value = { List (List ℕ) };
 
     ghost view = { λ index. map (λ name. name.items) index.set.keys };
+
+    ghost invariant = { λ index. AreDistinct (map (λ name. name.items) index.set.keys) };
 }
 
 impl NameIndex {
@@ -37,6 +40,7 @@ impl NameIndex {
     pub fn insert(&mut self, alloc: Global, name: &[u8]) -> Result<bool, AllocError>
         ensures added { IfOk result (λ added. Added self.old name.now self.new added) }
         ensures fresh { is_among name.now self.old ≡ false → OnOk result (self.new ≡ self.old ++ name.now ∷ []) }
+        ensures distinct { OnOk result (AreDistinct self.new) }
         ensures unchanged { OnErr result (self.new ≡ self.old) }
     {
         let owned = Vec::from_slice(alloc, name)?;
@@ -48,6 +52,7 @@ impl NameIndex {
         ensures position { result ≡ position (bytes_eq name.now) self.now }
         ensures found { is_some result ≡ is_among name.now self.now }
         ensures within { IfSome result (λ number. number < length self.now) }
+        ensures distinct { AreDistinct self.now }
     {
         self.set.get_index_of(name)
     }
