@@ -3,3 +3,5 @@ pub mod Cycle
 pub mod Leaf
 pub mod Names
 pub mod Sorts
+pub mod Words
+pub mod Growing

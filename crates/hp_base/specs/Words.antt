@@ -1,0 +1,18 @@
+-- Words that stand for names by their places, and environments that give them the values of their names.
+use Rattle.std.specs.Prelude.{◌≡◌, ℕ, List, Option, Some, option_map, position, slice_get}
+use Rattle.std.specs.Str.{bytes_eq}
+use Rattle.hp_math.specs.Rational.{ℚ}
+use Rattle.hp_base.specs.declared.literal.Name.{Name}
+use Rattle.hp_base.specs.Truth.{Values, name_value}
+
+-- a word is the list of its bytes
+abbrev pub Word : Type 0
+Word = List ℕ
+
+-- the name that a word stands for: its first place among the words
+abbrev pub number : List Word → Word → Option Name
+number words word = option_map (λ at. record { 0 = at }) (position (bytes_eq word) words)
+
+-- each word has in the environment the value of its name
+abbrev pub Agrees : List Word → Values → (Word → ℚ) → Type 0
+Agrees words v env = (k : ℕ) (word : Word) → slice_get words k ≡ Some word → env word ≡ name_value v k
