@@ -58,6 +58,13 @@ one_true names functions [] = false
 one_true names functions (atom ∷ atoms) = atom_is_true names functions atom || one_true names functions atoms
 
 -- ---- a structure
+-- the name and the value of a constant
+abbrev pub entry_name : ConstValue → Name
+entry_name c = c.name
+
+abbrev pub entry_value : ConstValue → ℚ
+entry_value c = c.value
+
 -- the value of the first entry with this name, or 0
 abbrev pub constant : List ConstValue → Names
 constant [] name = whole (pos 0)
