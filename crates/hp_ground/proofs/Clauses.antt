@@ -1,4 +1,4 @@
--- A clause is true in a structure exactly where one of its literals is true at the values of the constants.
+-- A clause is true in an environment exactly where one of its literals is true at the values of the names.
 use Rattle.std.proofs.Common.{◌≡◌, ◌↔◌, ◌⊎◌, ℕ, zero, suc, Bool, true, false, cond, not, ◌||◌, ◌&&◌, pos, List, [], ◌∷◌, ◌++◌, Option, Some, None, Ok, map, refl, sym, ap, subst, ◌∙◌, inl, inr}
 use Rattle.std.specs.Prelude.{slice_get}
 use Rattle.std.specs.List.{All}
@@ -9,29 +9,31 @@ use Rattle.hp_ast.specs.declared.problem.Sort.{Sort}
 use Rattle.hp_ast.specs.declared.problem.Sort.TheVariants as sort
 use Rattle.hp_ast.specs.declared.problem.Atom.{Atom}
 use Rattle.hp_ast.specs.declared.problem.Clause.{Clause}
+use Rattle.hp_ast.specs.declared.term.Term.{Term}
 use Rattle.hp_base.specs.declared.literal.Name.{Name}
 use Rattle.hp_base.specs.declared.literal.Lit.{Lit}
 use Rattle.hp_base.specs.Sorts.{AreOfSorts, IsOfSort}
 use Rattle.hp_base.specs.Truth.{Values, name_value, optional_value, LineIsTrue}
-use Rattle.hp_model.specs.declared.structure.ConstValue.{ConstValue}
-use Rattle.hp_model.specs.Value.{Functions, constant, atom_is_true, all_true, one_true}
-use Rattle.hp_norm.specs.declared.atoms.Side.{Side}
-use Rattle.hp_norm.specs.declared.atoms.Side.TheVariants.{Guard, Head}
-use Rattle.hp_norm.specs.declared.collect.Form.{Form}
-use Rattle.hp_norm.specs.Forms.{form_of}
-use Rattle.hp_norm.specs.Literals.{IsIndexAtom, atom_literals, is_index_atom}
-use Rattle.hp_norm.specs.Values.{asked, entry_name, entry_value}
-use Rattle.hp_norm.specs.Laws.{IsWholeSide}
+use Rattle.hp_base.specs.Words.{Agrees}
+use Rattle.hp_model.specs.declared.sides.Side.{Side}
+use Rattle.hp_model.specs.declared.sides.Side.TheVariants.{Guard, Head}
+use Rattle.hp_model.specs.Sides.{asked}
+use Rattle.hp_model.specs.Value.{Names, Functions, atom_is_true, all_true, one_true}
+use Rattle.hp_norm.specs.Forms.{form_of, is_index_term}
+use Rattle.hp_norm.specs.Literals.{atom_literals, is_index_atom}
+use Rattle.hp_norm.specs.Laws.{IsWholeTerm}
 use Rattle.hp_norm.proofs.Numbers.{whole-whole}
+use Rattle.hp_norm.proofs.Shapes.{index_sides}
 use Rattle.hp_norm.proofs.Truth as index
 use Rattle.hp_linear.specs.Steps.{Refusable, behind}
 use Rattle.hp_linear.specs.Literals.{num_literals}
 use Rattle.hp_linear.proofs.Refusals.{came, ok_same}
 use Rattle.hp_linear.proofs.Truth as linear
 use Rattle.hp_ground.specs.declared.consts.Consts.{Consts}
-use Rattle.hp_ground.specs.Ground.{IsGroundAtom, IsGroundClause, IsIdxAtom, is_num_atom, names_have_sort, sides_have_sort}
+use Rattle.hp_ground.specs.Ground.{IsGroundAtom, IsGroundClause, IsIdxAtom, IsNumAtom, is_num_atom, names_have_sort, sides_have_sort}
 use Rattle.hp_ground.specs.Lines.{IsIdxSide, atoms_literals, clause_literals, literals_of}
-use Rattle.hp_ground.proofs.IdxRows.{FormIdx, form_idx}
+use Rattle.hp_ground.proofs.IdxRows.{form_idx}
+use Rattle.hp_ground.proofs.NumNames.{term_linear}
 use Rattle.hp_ground.proofs.Steps.{only_idx}
 
 -- ---- lines in two parts
@@ -97,41 +99,35 @@ whole_value (s ∷ ss) (x ∷ xs) zero h e = by s h.0 e
     by sort.Ptr h e = absurd (cc)
 whole_value (s ∷ ss) (x ∷ xs) (suc k) h e = whole_value ss xs k h.1 e
 
-whole_side : (consts : Consts) (v : Values) → AreOfSorts consts.sorts v → (o : Option Form) → FormIdx consts o → IsWholeSide v o
-whole_side consts v sorted None h = tt
-whole_side consts v sorted (Some f) h = by f.base h
-  where
-    by : (base : Option Name) → IsIdxSide consts.sorts base → is_whole (optional_value v base) ≡ true
-    by None h = whole-whole (pos 0)
-    by (Some name) h = whole_value consts.sorts v name.0 sorted h
+whole_side : (consts : Consts) (v : Values) → AreOfSorts consts.sorts v → (base : Option Name) → IsIdxSide consts.sorts base → is_whole (optional_value v base) ≡ true
+whole_side consts v sorted None h = whole-whole (pos 0)
+whole_side consts v sorted (Some name) h = whole_value consts.sorts v name.0 sorted h
 
-module _ (es : List ConstValue) (f : Functions) (consts : Consts) (same : map entry_name es ≡ consts.names) (sorted : AreOfSorts consts.sorts (map entry_value es)) where
-  abbrev v : Values
-  v = map entry_value es
-
+module _ (consts : Consts) (v : Values) (env : Names) (f : Functions) (agrees : Agrees consts.names v env) (sorted : AreOfSorts consts.sorts v) where
   abbrev truth : Atom → Bool
-  truth atom = atom_is_true (constant es) f atom
+  truth atom = atom_is_true env f atom
 
   -- ---- one atom
-  num_says : (side : Side) (atom : Atom) (lits : List Lit) → num_literals consts.names side atom ≡ Ok lits → Says v lits (asked side (truth atom))
-  num_says side atom lits e = linear.literals_are_true_with_atoms es f side atom lits (subst (λ (ns : List (List ℕ)). num_literals ns side atom ≡ Ok lits) (sym same) e)
+  num_says : (side : Side) (atom : Atom) (lits : List Lit) → IsNumAtom consts atom → num_literals consts.names side atom ≡ Ok lits → Says v lits (asked side (truth atom))
+  num_says side atom lits is e =
+      let parts = and_parts (names_have_sort consts sort.Num atom.left) (names_have_sort consts sort.Num atom.right) is in
+      linear.literals_are_true_with_atoms consts.names v env f side atom lits agrees (term_linear consts sort.Num atom.left parts.0) (term_linear consts sort.Num atom.right parts.1) e
+
+  whole_term : (t : Term) → names_have_sort consts sort.Idx t ≡ true → is_index_term consts.names t ≡ true → IsWholeTerm consts.names v t
+  whole_term t e is = record { index = is; whole = whole_side consts v sorted (form_of consts.names t).base (form_idx consts t e) }
 
   idx_says : (side : Side) (atom : Atom) → IsIdxAtom consts atom → Says v (atom_literals consts.names side atom) (asked side (truth atom))
   idx_says side atom is =
       let both = and_parts (sides_have_sort consts sort.Idx atom) (is_index_atom consts.names atom) is in
-      let parts = and_parts (names_have_sort consts sort.Idx atom.left) (names_have_sort consts sort.Idx atom.right) both.0 in
-      let left = whole_side consts v sorted (form_of consts.names atom.left) (form_idx consts atom.left parts.0) in
-      let right = whole_side consts v sorted (form_of consts.names atom.right) (form_idx consts atom.right parts.1) in
-      subst (λ (ns : List (List ℕ)). Says v (atom_literals ns side atom) (asked side (truth atom))) same
-      (index.literals_are_true_with_atoms es f side atom (subst (λ (ns : List (List ℕ)). IsIndexAtom ns atom) (sym same) both.1)
-      (subst (λ (ns : List (List ℕ)). IsWholeSide v (form_of ns atom.left)) (sym same) left)
-      (subst (λ (ns : List (List ℕ)). IsWholeSide v (form_of ns atom.right)) (sym same) right))
+      let named = and_parts (names_have_sort consts sort.Idx atom.left) (names_have_sort consts sort.Idx atom.right) both.0 in
+      let sides = index_sides consts.names atom both.1 in
+      index.literals_are_true_with_atoms consts.names v env f side atom agrees (whole_term atom.left named.0 sides.0) (whole_term atom.right named.1 sides.1)
 
   atom_says : (side : Side) (atom : Atom) (lits : List Lit) → IsGroundAtom consts atom → literals_of consts side atom ≡ Ok lits → Says v lits (asked side (truth atom))
   atom_says side atom lits ground e = by (is_num_atom consts atom) refl
     where
       by : (b : Bool) → is_num_atom consts atom ≡ b → Says v lits (asked side (truth atom))
-      by true t = num_says side atom lits (sym (ap (λ b. cond b (num_literals consts.names side atom) (Ok (atom_literals consts.names side atom))) t) ∙ e)
+      by true t = num_says side atom lits t (sym (ap (λ b. cond b (num_literals consts.names side atom) (Ok (atom_literals consts.names side atom))) t) ∙ e)
       by false t =
           let found : ◌≡◌ {A = Refusable (List Lit)} (Ok (atom_literals consts.names side atom)) (Ok lits) =
           sym (ap (λ b. cond b (num_literals consts.names side atom) (Ok (atom_literals consts.names side atom))) t) ∙ e in
@@ -154,21 +150,21 @@ module _ (es : List ConstValue) (f : Functions) (consts : Consts) (same : map en
       (atom_says side atom one.value (All-head (IsGroundAtom consts) atom atoms all) one.first)
       (atoms_say side atoms two.value (All-tail (IsGroundAtom consts) atom atoms all) two.first))
 
-  head_asked : (atoms : List Atom) → some_asked Head atoms ≡ one_true (constant es) f atoms
+  head_asked : (atoms : List Atom) → some_asked Head atoms ≡ one_true env f atoms
   head_asked [] = refl
   head_asked (atom ∷ atoms) = ap (λ b. truth atom || b) (head_asked atoms)
 
-  guard_asked : (atoms : List Atom) → some_asked Guard atoms ≡ not (all_true (constant es) f atoms)
+  guard_asked : (atoms : List Atom) → some_asked Guard atoms ≡ not (all_true env f atoms)
   guard_asked [] = refl
-  guard_asked (atom ∷ atoms) = ap (λ b. not (truth atom) || b) (guard_asked atoms) ∙ sym (not_and (truth atom) (all_true (constant es) f atoms))
+  guard_asked (atom ∷ atoms) = ap (λ b. not (truth atom) || b) (guard_asked atoms) ∙ sym (not_and (truth atom) (all_true env f atoms))
 
   -- ---- the clause
   pub clause_says : (c : Clause) (lits : List Lit) → IsGroundClause consts c → clause_literals consts c ≡ Ok lits
-      → LineIsTrue v lits ↔ ((not (all_true (constant es) f c.guard) || one_true (constant es) f c.head) ≡ true)
+      → LineIsTrue v lits ↔ ((not (all_true env f c.guard) || one_true env f c.head) ≡ true)
   clause_says c lits is e =
       let one = came (atoms_literals consts Guard c.guard) (λ ls. behind ls (atoms_literals consts Head c.head)) lits e in
       let two = came (atoms_literals consts Head c.head) (λ ls. Ok (one.value ++ ls)) lits one.rest in
-      subst (λ (ls : List Lit). Says v ls (not (all_true (constant es) f c.guard) || one_true (constant es) f c.head)) (ok_same (one.value ++ two.value) lits two.rest)
+      subst (λ (ls : List Lit). Says v ls (not (all_true env f c.guard) || one_true env f c.head)) (ok_same (one.value ++ two.value) lits two.rest)
       (subst (λ (b : Bool). Says v (one.value ++ two.value) b) (λ i. guard_asked c.guard i || head_asked c.head i)
       (join_says v one.value two.value (some_asked Guard c.guard) (some_asked Head c.head)
       (atoms_say Guard c.guard one.value is.guard one.first) (atoms_say Head c.head two.value is.head two.first)))

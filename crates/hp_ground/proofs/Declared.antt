@@ -3,7 +3,7 @@ use Rattle.std.proofs.Common.{◌≡◌, ◌<◌, ◌≤◌, ℕ, zero, suc, ◌
 use Rattle.std.specs.Str.{bytes_eq}
 use Rattle.std.specs.List.{list_any, All}
 use Rattle.std.proofs.lemmas.List.{drop_more, take_more, get_or-map, length-map, map-append}
-use Rattle.hp_norm.specs.Numbered.{is_among, AreDistinct}
+use Rattle.hp_names.specs.Names.{is_among, AreDistinct}
 use Rattle.std.proofs.lemmas.List.Elements.{All-nil, All-cons, All-head, All-tail, All-append}
 use Rattle.hp_ast.specs.declared.problem.Decl.{Decl}
 use Rattle.hp_ast.specs.declared.problem.Decl.TheVariants.{Const, Fun}
@@ -14,32 +14,9 @@ use Rattle.hp_ground.specs.declared.consts.ConstsRead.TheVariants.{Read}
 use Rattle.hp_ground.specs.Ground.{IsGroundDecl, consts_of, decl_name, declared_name, declared_sort}
 use Rattle.hp_ground.specs.Lines.{as_constant}
 use Rattle.hp_ground.specs.Answers.{ConstsFound}
-use Rattle.hp_norm.proofs.Texts.{apart_back, not_both, same_text, text_same}
+use Rattle.hp_names.proofs.Texts.{not_both, same_text, text_same}
 
 -- ---- declarations
-list_any-append : (p : List ℕ → Bool) (xs ys : List (List ℕ)) → list_any p (xs ++ ys) ≡ (list_any p xs || list_any p ys)
-list_any-append p [] ys = refl
-list_any-append p (x ∷ xs) ys = by (p x) (list_any p xs) (list_any p ys) (list_any p (xs ++ ys)) (list_any-append p xs ys)
-  where
-    by : (a b c d : Bool) → d ≡ (b || c) → (a || d) ≡ ((a || b) || c)
-    by true b c d e = refl
-    by false b c d e = e
-
-none_of : (a b : Bool) → (a || b) ≡ false → (a ≡ false) × (b ≡ false)
-none_of true b e = absurd (cc)
-none_of false b e = (refl, e)
-
-neither : (a b : Bool) → a ≡ false → b ≡ false → (a || (b || false)) ≡ false
-neither true b e f = e
-neither false true e f = f
-neither false false e f = refl
-
-distinct_more : (ns : List (List ℕ)) (x : List ℕ) → AreDistinct ns → is_among x ns ≡ false → AreDistinct (ns ++ x ∷ [])
-distinct_more [] x d e = (refl, tt)
-distinct_more (n ∷ ns) x d e =
-    let parts = none_of (bytes_eq x n) (list_any (bytes_eq x) ns) e in
-    (list_any-append (bytes_eq n) ns (x ∷ []) ∙ neither _ _ d.0 (apart_back x n parts.0), distinct_more ns x d.1 parts.1)
-
 among_middle : (x : List ℕ) (ns ms : List (List ℕ)) → is_among x (ns ++ x ∷ ms) ≡ true
 among_middle x [] ms = by (bytes_eq x x) (list_any (bytes_eq x) ms) (text_same x)
   where
@@ -86,14 +63,11 @@ twice consts i d h e all =
     let split : consts ≡ take i consts ++ get_or consts i d ∷ drop (i + 1) consts = sym (take-append-drop i consts) ∙ ap (λ (r : List (List ℕ)). take i consts ++ r) (drop_more consts i d h) in
     repeated (take i consts) (drop (i + 1) consts) (get_or consts i d) (subst AreDistinct split all) e
 
-pub name_more : (consts : List (List ℕ)) (i : ℕ) (d : List ℕ) (index : List (List ℕ)) → i < length consts → is_among (get_or consts i d) index ≡ false
+pub name_more : (consts : List (List ℕ)) (i : ℕ) (d : List ℕ) (index : List (List ℕ)) → i < length consts → AreDistinct (index ++ get_or consts i d ∷ [])
     → AreNamesSoFar consts i index → AreNamesSoFar consts (i + 1) (index ++ get_or consts i d ∷ [])
-name_more consts i d index h e so_far =
-    let more = take_more consts i d h in
-    record {
-      indexed = ap (λ (ns : List (List ℕ)). ns ++ get_or consts i d ∷ []) so_far.indexed ∙ sym more;
-      distinct = subst AreDistinct (sym more) (distinct_more (take i consts) (get_or consts i d) so_far.distinct (subst (λ (ns : List (List ℕ)). is_among (get_or consts i d) ns ≡ false) so_far.indexed e));
-    }
+name_more consts i d index h once so_far =
+    let e = ap (λ (ns : List (List ℕ)). ns ++ get_or consts i d ∷ []) so_far.indexed ∙ sym (take_more consts i d h) in
+    record { indexed = e; distinct = subst AreDistinct e once }
 
 -- ---- the same of declarations
 module _ (decls : List Decl) (i : ℕ) (d : Decl) (h : i < length decls) where
@@ -106,11 +80,11 @@ module _ (decls : List Decl) (i : ℕ) (d : Decl) (h : i < length decls) where
   pub twice_declared : is_among (decl_name (get_or decls i d)) (take i (map decl_name decls)) ≡ true → AreDistinct (map decl_name decls) → ⊥
   twice_declared e all = twice (map decl_name decls) i [] within (subst (λ (n : List ℕ). is_among n (take i (map decl_name decls)) ≡ true) (sym name_at) e) all
 
-  pub decl_more : (index : List (List ℕ)) → is_among (decl_name (get_or decls i d)) index ≡ false → AreNamesSoFar (map decl_name decls) i index
+  pub decl_more : (index : List (List ℕ)) → AreDistinct (index ++ decl_name (get_or decls i d) ∷ []) → AreNamesSoFar (map decl_name decls) i index
       → AreNamesSoFar (map decl_name decls) (i + 1) (index ++ decl_name (get_or decls i d) ∷ [])
-  decl_more index e so_far =
+  decl_more index once so_far =
       subst (λ (n : List ℕ). AreNamesSoFar (map decl_name decls) (i + 1) (index ++ n ∷ [])) name_at
-      (name_more (map decl_name decls) i [] index within (subst (λ (n : List ℕ). is_among n index ≡ false) (sym name_at) e) so_far)
+      (name_more (map decl_name decls) i [] index within (subst (λ (n : List ℕ). AreDistinct (index ++ n ∷ [])) (sym name_at) once) so_far)
 
   -- the sorts of the first declarations, with one more
   pub sort_more : (sorts : List Sort) (s : Sort) → get_or decls i d ≡ Const (decl_name (get_or decls i d)) s → sorts ≡ map decl_sort (take i decls) → sorts ++ s ∷ [] ≡ map decl_sort (take (i + 1) decls)

@@ -1,4 +1,4 @@
--- Computations that are refused for a number that is too wide alone, and what their values have.
+-- Computations that may be refused, and what their values have where they are not.
 use Rattle.std.proofs.Common.{Result, Ok, Err, ℕ, Bool, true, false, cond, ◌^◌, ◌*◌, ◌/◌, nat_lt, List, [], ◌∷◌, unsigned_abs}
 use Rattle.hp_math.specs.Rational.{ℚ}
 use Rattle.hp_num.specs.Wide.{add_over, mul_over, times_of}
@@ -6,15 +6,14 @@ use Rattle.hp_num.specs.declared.wide.Wide.{Wide as TooWide}
 use Rattle.std.specs.Prelude.{pos}
 use Rattle.hp_linear.specs.declared.form.Form.{Form}
 use Rattle.hp_linear.specs.declared.form.Summand.{Summand}
-use Rattle.hp_linear.specs.declared.form.Refusal.TheVariants.{Other, Wide, Memory}
+use Rattle.hp_base.specs.declared.refusal.Refusal.TheVariants.{Wide, Memory}
 use Rattle.hp_linear.specs.Steps.{Refusable, ◌>>=◌, gcd, unless_wide}
 use Rattle.hp_linear.specs.Forms.{product_of, sum_of}
 use Rattle.hp_linear.specs.Wholes.{denominator_of, lcm_of, multiple_of, scaled_number}
 
--- a value has this, and no other refusal comes
+-- a value has this
 abbrev pub Fine : {A : Type 0} → (A → Type 0) → Refusable A → Type 0
 Fine P (Ok x) = P x
-Fine P (Err Other) = ⊥
 Fine P (Err Wide) = Unit {0}
 Fine P (Err Memory) = Unit {0}
 
@@ -23,7 +22,6 @@ Any x = Unit {0}
 
 pub fine_then : {A B : Type 0} (P : A → Type 0) (Q : B → Type 0) (r : Refusable A) (f : A → Refusable B) → Fine P r → ((x : A) → P x → Fine Q (f x)) → Fine Q (r >>= f)
 fine_then P Q (Ok x) f h g = g x h
-fine_then P Q (Err Other) f h g = absurd h
 fine_then P Q (Err Wide) f h g = tt
 fine_then P Q (Err Memory) f h g = tt
 

@@ -19,10 +19,11 @@ use Rattle.hp_base.specs.declared.literal.Lit.TheVariants.{Idx}
 use Rattle.hp_norm.specs.declared.collect.Form.{Form}
 use Rattle.hp_norm.specs.declared.collect.Shape.{Shape}
 use Rattle.hp_norm.specs.declared.collect.Shape.TheVariants.{Number, Sum, Other}
-use Rattle.hp_norm.specs.declared.atoms.Side.{Side}
-use Rattle.hp_norm.specs.Numbered.{number}
+use Rattle.hp_base.specs.Words.{number}
+use Rattle.hp_model.specs.declared.sides.Side.{Side}
+use Rattle.hp_model.specs.Sides.{taken}
 use Rattle.hp_norm.specs.Forms.{form_of, shape_form, shape_of, shape_step, shifted, plus_shape, minus_shape, neg_shape, number_shape, named_shape}
-use Rattle.hp_norm.specs.Literals.{atom_literals, cancel, compared, is_index_atom, literals, sides_literals, taken, HasSmallBound}
+use Rattle.hp_norm.specs.Literals.{atom_literals, cancel, compared, is_index_atom, literals, HasSmallBound}
 use Rattle.hp_ground.specs.declared.consts.Consts.{Consts}
 use Rattle.hp_ground.specs.Ground.{IsIdxAtom, is_of, names_have_sort, names_step, sides_have_sort, sort_of}
 use Rattle.hp_ground.specs.Lines.{IsIdxSide, IsRow}
@@ -93,14 +94,10 @@ module _ (consts : Consts) where
   term_idx : (t : Term) → Fits t
   term_idx t = ind-Term Fits (λ x y is. subst (λ z. Fits (roll-Term z)) is (layer_idx y)) t
 
-  abbrev pub FormIdx : Option Form → Type 0
-  FormIdx None = Unit {0}
-  FormIdx (Some f) = IsIdxSide consts.sorts f.base
-
-  pub form_idx : (t : Term) → names_have_sort consts sort.Idx t ≡ true → FormIdx (form_of consts.names t)
+  pub form_idx : (t : Term) → names_have_sort consts sort.Idx t ≡ true → IsIdxSide consts.sorts (form_of consts.names t).base
   form_idx t e = by (shape_of consts.names t) (term_idx t e)
     where
-      by : (s : Shape) → ShapeIdx s → FormIdx (shape_form s)
+      by : (s : Shape) → ShapeIdx s → IsIdxSide consts.sorts (shape_form s).base
       by (Number k) h = tt
       by (Sum f) h = h
       by Other h = tt
@@ -127,14 +124,9 @@ module _ (consts : Consts) where
   literal_rows Ge l m h g b = one_row rel.Le m l g h b
   literal_rows Gt l m h g b = one_row rel.Lt m l g h b
 
-  sides_rows : (cmp : Cmp) (o p : Option Form) → FormIdx o → FormIdx p → All HasSmallBound (sides_literals cmp o p) → All (IsRow consts.sorts) (sides_literals cmp o p)
-  sides_rows cmp None p h g b = All-nil (IsRow consts.sorts)
-  sides_rows cmp (Some l) None h g b = All-nil (IsRow consts.sorts)
-  sides_rows cmp (Some l) (Some m) h g b = literal_rows cmp l m h g b
-
   -- the literals of an atom of sort idx, where its numbers are small
   pub idx_rows : (side : Side) (atom : Atom) → IsIdxAtom consts atom → All HasSmallBound (atom_literals consts.names side atom) → All (IsRow consts.sorts) (atom_literals consts.names side atom)
   idx_rows side atom is small =
       let sorted = and_parts (sides_have_sort consts sort.Idx atom) (is_index_atom consts.names atom) is in
       let parts = and_parts (names_have_sort consts sort.Idx atom.left) (names_have_sort consts sort.Idx atom.right) sorted.0 in
-      sides_rows (taken side atom.cmp) (form_of consts.names atom.left) (form_of consts.names atom.right) (form_idx atom.left parts.0) (form_idx atom.right parts.1) small
+      literal_rows (taken side atom.cmp) (form_of consts.names atom.left) (form_of consts.names atom.right) (form_idx atom.left parts.0) (form_idx atom.right parts.1) small

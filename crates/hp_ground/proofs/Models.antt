@@ -1,14 +1,14 @@
 -- The structures of a problem and the values at which its ground lines are true.
-use Rattle.std.proofs.Common.{◌≡◌, ◌↔◌, ℕ, ◌+◌, Bool, true, not, ◌||◌, pos, List, [], ◌∷◌, ◌++◌, map, Ok, refl, sym, ap, subst, ◌∙◌, arith}
+use Rattle.std.proofs.Common.{◌≡◌, ◌↔◌, ℕ, zero, suc, ◌+◌, Bool, true, cond, not, ◌||◌, List, [], ◌∷◌, ◌++◌, Option, Some, None, map, Ok, refl, sym, ap, subst, ◌∙◌, arith}
 use Rattle.std.specs.Prelude.{IsTrue}
+use Rattle.std.specs.Str.{bytes_eq}
 use Rattle.std.specs.List.{All}
 use Rattle.std.proofs.lemmas.List.Elements.{All-nil, All-cons, All-head, All-tail}
-use Rattle.hp_math.specs.Rational.{ℚ, whole}
+use Rattle.hp_math.specs.Rational.{ℚ}
 use Rattle.hp_ast.specs.declared.problem.Sort.{Sort}
 use Rattle.hp_ast.specs.declared.problem.Sort.TheVariants as sort
 use Rattle.hp_ast.specs.declared.problem.Clause.{Clause}
 use Rattle.hp_ast.specs.declared.problem.Problem.{Problem}
-use Rattle.hp_ast.specs.declared.problem.Var.{Var}
 use Rattle.hp_ast.specs.declared.problem.Decl.{Decl}
 use Rattle.hp_ast.specs.declared.problem.Decl.TheVariants.{Const, Fun}
 use Rattle.hp_base.specs.declared.line.Line.{Line}
@@ -19,12 +19,16 @@ use Rattle.hp_base.specs.declared.names.Signature.{Signature}
 use Rattle.hp_base.specs.Names.{constant_sort, sort_of_definition, sorts}
 use Rattle.hp_base.specs.Sorts.{AreOfSorts, IsOfSort}
 use Rattle.hp_base.specs.Truth.{Values, LineIsTrue}
+use Rattle.hp_base.specs.Words.{Word, Agrees}
 use Rattle.hp_model.specs.declared.structure.ConstValue.{ConstValue}
 use Rattle.hp_model.specs.declared.structure.Structure.{Structure}
-use Rattle.hp_model.specs.Value.{Names, constant, functions_of, all_true, one_true}
+use Rattle.hp_model.specs.Value.{constant, entry_name, entry_value, functions_of, all_true, one_true}
 use Rattle.hp_model.specs.WellFormed.{Declared, constants, ConstantsFit, is_of_sort}
-use Rattle.hp_model.specs.Satisfies.{Holds, with_variables}
-use Rattle.hp_norm.specs.Values.{entry_name, entry_value}
+use Rattle.hp_model.specs.Satisfies.{Holds}
+use Rattle.hp_model.proofs.Universal.{plain_clauses_hold}
+use Rattle.hp_names.specs.Names.{AreDistinct}
+use Rattle.hp_names.proofs.Distinct.{absent}
+use Rattle.hp_names.proofs.Texts.{text_same}
 use Rattle.hp_linear.specs.Steps.{behind}
 use Rattle.hp_linear.proofs.Refusals.{came, ok_same}
 use Rattle.hp_ground.specs.declared.consts.Consts.{Consts}
@@ -105,29 +109,35 @@ sorts_of cs ss defs ds e d = (λ i. map constant_sort (e i) ++ map (sort_of_defi
 pub ground_sorts : (p : Problem) (g : Ground) → IsGroundOf p g → sorts g.names ≡ (consts_of p.decls).sorts
 ground_sorts p g is = sorts_of g.names.constants g.names.signatures g.names.definitions (constants p.decls) is.constants is.definitions
 
+-- ---- constants as an environment
+-- distinct constants have the values at their places
+pub constants_agree : (es : List ConstValue) → AreDistinct (map entry_name es) → Agrees (map entry_name es) (map entry_value es) (constant es)
+constants_agree [] once k word e = absurd (cc)
+constants_agree (c ∷ es) once zero word e =
+    let same : c.name ≡ word = ap (λ (o : Option Word). elim o [ None ↦ c.name | Some w ↦ w ]) e in
+    ap (λ (b : Bool). cond b c.value (constant es word)) (subst (λ (w : Word). bytes_eq c.name w ≡ true) same (text_same c.name))
+constants_agree (c ∷ es) once (suc k) word e =
+    ap (λ (b : Bool). cond b c.value (constant es word)) (absent c.name (map entry_name es) k word once.0 e) ∙ constants_agree es once.1 k word e
+
 -- ---- clauses and lines
-module _ (s : Structure) (consts : Consts) (same : map entry_name s.consts ≡ consts.names) (sorted : AreOfSorts consts.sorts (map entry_value s.consts)) where
+module _ (s : Structure) (consts : Consts) (same : map entry_name s.consts ≡ consts.names) (once : AreDistinct consts.names) (sorted : AreOfSorts consts.sorts (map entry_value s.consts)) where
+  abbrev v : Values
+  v = map entry_value s.consts
+
   abbrev Says : Line → Type 0
-  Says line = LineIsTrue (map entry_value s.consts) line.lits
+  Says line = LineIsTrue v line.lits
 
-  abbrev truth_at : Names → Clause → Bool
-  truth_at at c = not (all_true at (functions_of s) c.guard) || one_true at (functions_of s) c.head
+  abbrev truth_of : Clause → Bool
+  truth_of c = not (all_true (constant s.consts) (functions_of s) c.guard) || one_true (constant s.consts) (functions_of s) c.head
 
-  -- without variables every name is a constant
-  plain : (c : Clause) → c.vars ≡ [] → Holds s c → truth_at (constant s.consts) c ≡ true
-  plain c e h =
-      let values = λ (name : List ℕ). whole (pos 0) in
-      subst (λ (vs : List Var). truth_at (with_variables vs values (constant s.consts)) c ≡ true) e
-      (h values (subst (All (λ (x : Var). IsTrue (is_of_sort s.universe x.sort (values x.name)))) (sym e) (All-nil (λ (x : Var). IsTrue (is_of_sort s.universe x.sort (values x.name))))))
+  agrees : Agrees consts.names v (constant s.consts)
+  agrees = subst (λ (words : List Word). Agrees words v (constant s.consts)) same (constants_agree s.consts (subst AreDistinct (sym same) once))
 
-  from_plain : (c : Clause) → c.vars ≡ [] → truth_at (constant s.consts) c ≡ true → Holds s c
-  from_plain c e h = λ values sorted. subst (λ (vs : List Var). truth_at (with_variables vs values (constant s.consts)) c ≡ true) (sym e) h
-
-  line_says : (n : ℕ) (c : Clause) (l : Line) → IsGroundClause consts c → line_of consts n c ≡ Ok l → Says l ↔ (truth_at (constant s.consts) c ≡ true)
+  line_says : (n : ℕ) (c : Clause) (l : Line) → IsGroundClause consts c → line_of consts n c ≡ Ok l → Says l ↔ (truth_of c ≡ true)
   line_says n c l is e =
       let one = came (clause_literals consts c) (λ lits. Ok (from_clause n lits)) l e in
-      subst (λ (x : Line). Says x ↔ (truth_at (constant s.consts) c ≡ true)) (ok_same (from_clause n one.value) l one.rest)
-      (clause_says s.consts (functions_of s) consts same sorted c one.value is one.first)
+      subst (λ (x : Line). Says x ↔ (truth_of c ≡ true)) (ok_same (from_clause n one.value) l one.rest)
+      (clause_says consts v (constant s.consts) (functions_of s) agrees sorted c one.value is one.first)
 
   all_lines_true : (n : ℕ) (cs : List Clause) (ls : List Line) → All (IsGroundClause consts) cs → lines_from consts n cs ≡ Ok ls → All (Holds s) cs → All Says ls
   all_lines_true n [] ls is e holds = subst (All Says) (ok_same [] ls e) (All-nil Says)
@@ -136,7 +146,7 @@ module _ (s : Structure) (consts : Consts) (same : map entry_name s.consts ≡ c
       let one = came (line_of consts n c) (λ l. behind (l ∷ []) (lines_from consts (n + 1) cs)) ls e in
       let two = came (lines_from consts (n + 1) cs) (λ rest. Ok (one.value ∷ rest)) ls one.rest in
       subst (All Says) (ok_same (one.value ∷ two.value) ls two.rest)
-      (All-cons Says one.value two.value ((line_says n c one.value first one.first).1 (plain c first.vars (All-head (Holds s) c cs holds)))
+      (All-cons Says one.value two.value ((line_says n c one.value first one.first).1 ((plain_clauses_hold s c first.vars).0 (All-head (Holds s) c cs holds)))
       (all_lines_true (n + 1) cs two.value (All-tail (IsGroundClause consts) c cs is) two.first (All-tail (Holds s) c cs holds)))
 
   all_clauses_hold : (n : ℕ) (cs : List Clause) (ls : List Line) → All (IsGroundClause consts) cs → lines_from consts n cs ≡ Ok ls → All Says ls → All (Holds s) cs
@@ -146,7 +156,7 @@ module _ (s : Structure) (consts : Consts) (same : map entry_name s.consts ≡ c
       let one = came (line_of consts n c) (λ l. behind (l ∷ []) (lines_from consts (n + 1) cs)) ls e in
       let two = came (lines_from consts (n + 1) cs) (λ rest. Ok (one.value ∷ rest)) ls one.rest in
       let says = subst (All Says) (sym (ok_same (one.value ∷ two.value) ls two.rest)) all in
-      All-cons (Holds s) c cs (from_plain c first.vars ((line_says n c one.value first one.first).0 (All-head Says one.value two.value says)))
+      All-cons (Holds s) c cs ((plain_clauses_hold s c first.vars).1 ((line_says n c one.value first one.first).0 (All-head Says one.value two.value says)))
       (all_clauses_hold (n + 1) cs two.value (All-tail (IsGroundClause consts) c cs is) two.first (All-tail Says one.value two.value says))
 
 pub structures_give_values : StructuresGiveValues
@@ -158,7 +168,7 @@ structures_give_values p g ground s satisfied =
       v,
       record {
         sorted = subst (λ (ss : List Sort). AreOfSorts ss v) (sym (ground_sorts p g ground)) of_sorts;
-        lines = all_lines_true s (consts_of p.decls) (fit_names s.universe ds s.consts fit) of_sorts 1 p.clauses g.lines ground.problem.clauses ground.lines satisfied.holds;
+        lines = all_lines_true s (consts_of p.decls) (fit_names s.universe ds s.consts fit) ground.problem.distinct of_sorts 1 p.clauses g.lines ground.problem.clauses ground.lines satisfied.holds;
       },
     )
 
@@ -174,7 +184,7 @@ values_give_a_structure p g ground v true_lines =
         constants_fit = given_fit ds v (plain_decls p.decls ground.problem.decls) of_sorts;
         tables = refl;
       };
-      holds = all_clauses_hold s (consts_of p.decls) (given_names ds v of_sorts) (subst (λ (w : Values). AreOfSorts (map declared_sort ds) w) (sym values) of_sorts)
+      holds = all_clauses_hold s (consts_of p.decls) (given_names ds v of_sorts) ground.problem.distinct (subst (λ (w : Values). AreOfSorts (map declared_sort ds) w) (sym values) of_sorts)
           1 p.clauses g.lines ground.problem.clauses ground.lines
           (subst (λ (w : Values). All (λ line. LineIsTrue w line.lits) g.lines) (sym values) true_lines.lines);
     }

@@ -1,6 +1,6 @@
--- The literals of an atom of sort num: their names are of sort num, and no refusal comes but for a number that is too wide.
-use Rattle.std.proofs.Common.{◌≡◌, ℕ, Bool, true, false, cond, nat_lt, pos, List, [], ◌∷◌, ◌++◌, Option, Some, None, map, Ok, sym, subst, ◌∙◌}
-use Rattle.std.specs.Prelude.{option_and_then, option_map, position, slice_get}
+-- The literals of an atom of sort num: their names are of sort num, and its terms are linear.
+use Rattle.std.proofs.Common.{◌≡◌, ℕ, Bool, true, false, cond, nat_lt, pos, List, [], ◌∷◌, ◌++◌, Option, Some, None, map, Ok, ◌&&◌, refl, sym, subst, ◌∙◌}
+use Rattle.std.specs.Prelude.{is_some, option_and_then, option_map, position, slice_get}
 use Rattle.std.specs.Str.{bytes_eq}
 use Rattle.std.specs.List.{All}
 use Rattle.std.proofs.lemmas.Bool.{and_parts}
@@ -19,14 +19,14 @@ use Rattle.hp_base.specs.declared.literal.Rel.{Rel}
 use Rattle.hp_base.specs.declared.literal.Rel.TheVariants as rel
 use Rattle.hp_base.specs.declared.literal.Lit.{Lit}
 use Rattle.hp_base.specs.declared.literal.Lit.TheVariants.{Num, Idx, Ptr}
-use Rattle.hp_norm.specs.declared.atoms.Side.{Side}
-use Rattle.hp_norm.specs.Numbered.{number}
-use Rattle.hp_norm.specs.Literals.{taken}
+use Rattle.hp_base.specs.Words.{Word, number}
+use Rattle.hp_model.specs.declared.sides.Side.{Side}
+use Rattle.hp_model.specs.Sides.{taken}
 use Rattle.hp_linear.specs.declared.form.Form.{Form}
 use Rattle.hp_linear.specs.declared.form.Summand.{Summand}
 use Rattle.hp_linear.specs.declared.wholes.Row.{Row}
 use Rattle.hp_linear.specs.Steps.{Refusable, ◌>>=◌, behind}
-use Rattle.hp_linear.specs.Forms.{copies, form_step, form_with, lin_of, minus_form, named_form, neg_form, neg_summand, plus_form, plus_summands, product_of, sum_of, times_form, times_summands, unless_zero}
+use Rattle.hp_linear.specs.Forms.{copies, form_step, form_with, is_linear, lin_of, linear_step, minus_form, named_form, neg_form, neg_summand, plus_form, plus_summands, product_of, sum_of, times_form, times_summands, unless_zero}
 use Rattle.hp_linear.specs.Wholes.{denominator_of, lowest_row, one_if_zero, over, row_divisor, row_of, row_with, scaled_number, scaled_parts, scaled_row, whole_copies}
 use Rattle.hp_linear.specs.Literals.{apart_literals, compared, literals, num_literals, one_literal, row_literal}
 use Rattle.hp_ground.specs.declared.consts.Consts.{Consts}
@@ -164,10 +164,10 @@ module _ (consts : Consts) where
   abbrev FormFine : Refusable Form → Type 0
   FormFine r = Fine (IsNamed consts.sorts) r
 
-  named_fine : (n : List ℕ) → is_of sort.Num (sort_of consts n) ≡ true → FormFine (named_form (number consts.names n))
+  named_fine : (n : Word) → is_of sort.Num (sort_of consts n) ≡ true → FormFine (Ok (named_form (number consts.names n)))
   named_fine n = by (position (bytes_eq n) consts.names)
     where
-      by : (o : Option ℕ) → is_of sort.Num (option_and_then (λ place. slice_get consts.sorts place) o) ≡ true → FormFine (named_form (option_map (λ at. record { 0 = at }) o))
+      by : (o : Option ℕ) → is_of sort.Num (option_and_then (λ place. slice_get consts.sorts place) o) ≡ true → FormFine (Ok (named_form (option_map (λ at. record { 0 = at }) o)))
       by None e = absurd (cc)
       by (Some i) e = (is_of-true sort.Num (slice_get consts.sorts i) e, tt)
 
@@ -184,9 +184,9 @@ module _ (consts : Consts) where
       → names_step consts sort.Num (map-Term Term Bool (names_have_sort consts sort.Num) (map-Term ((t : Term) × Fits t) Term (λ e. e.0) y)) ≡ true
       → FormFine (form_step consts.names (map-Term Term (Refusable Form) (lin_of consts.names) (map-Term ((t : Term) × Fits t) Term (λ e. e.0) y)))
   step_fine (Term-F.Number q) = λ e. tt
-  step_fine Term-F.Null = λ e. absurd (cc)
+  step_fine Term-F.Null = λ e. tt
   step_fine (Term-F.Name n) = named_fine n
-  step_fine (Term-F.Apply func args) = λ e. absurd (cc)
+  step_fine (Term-F.Apply func args) = λ e. tt
   step_fine (Term-F.Add a b) = λ e.
       let parts = and_parts (names_have_sort consts sort.Num a.0) (names_have_sort consts sort.Num b.0) e in
       both_fine plus_form (plus_form-named consts.sorts) (lin_of consts.names a.0) (lin_of consts.names b.0) (a.1 parts.0) (b.1 parts.1)
@@ -214,3 +214,46 @@ module _ (consts : Consts) where
       (λ l. lin_of consts.names atom.right >>= λ r. literals (taken side atom.cmp) l r) (term_fine atom.left parts.0)
       (λ l p. fine_then (IsNamed consts.sorts) (All (IsLitNamed consts.sorts)) (lin_of consts.names atom.right) (λ r. literals (taken side atom.cmp) l r) (term_fine atom.right parts.1)
       (λ r q. literals_named consts.sorts (taken side atom.cmp) l r p q))
+
+-- ---- terms with names of one sort are linear
+module _ (consts : Consts) (s : Sort) where
+  abbrev named_at : Option ℕ → Option Name
+  named_at place = option_map (λ at. record { 0 = at }) place
+
+  known : (n : Word) → is_of s (sort_of consts n) ≡ true → is_some (number consts.names n) ≡ true
+  known n = by (position (bytes_eq n) consts.names)
+    where
+      by : (o : Option ℕ) → is_of s (option_and_then (λ place. slice_get consts.sorts place) o) ≡ true → is_some (named_at o) ≡ true
+      by None e = absurd (cc)
+      by (Some i) e = refl
+
+  both : (a b : Bool) → a ≡ true → b ≡ true → (a && b) ≡ true
+  both true b p q = q
+  both false b p q = absurd (cc)
+
+  abbrev IsLinearOf : Term → Type 0
+  IsLinearOf t = names_have_sort consts s t ≡ true → is_linear consts.names t ≡ true
+
+  step_linear : (y : Term-F ((t : Term) × IsLinearOf t))
+      → names_step consts s (map-Term Term Bool (names_have_sort consts s) (map-Term ((t : Term) × IsLinearOf t) Term (λ e. e.0) y)) ≡ true
+      → linear_step consts.names (map-Term Term Bool (is_linear consts.names) (map-Term ((t : Term) × IsLinearOf t) Term (λ e. e.0) y)) ≡ true
+  step_linear (Term-F.Number q) = λ e. refl
+  step_linear Term-F.Null = λ e. absurd (cc)
+  step_linear (Term-F.Name n) = known n
+  step_linear (Term-F.Apply func args) = λ e. absurd (cc)
+  step_linear (Term-F.Add a b) = λ e.
+      let parts = and_parts (names_have_sort consts s a.0) (names_have_sort consts s b.0) e in
+      both (is_linear consts.names a.0) (is_linear consts.names b.0) (a.1 parts.0) (b.1 parts.1)
+  step_linear (Term-F.Sub a b) = λ e.
+      let parts = and_parts (names_have_sort consts s a.0) (names_have_sort consts s b.0) e in
+      both (is_linear consts.names a.0) (is_linear consts.names b.0) (a.1 parts.0) (b.1 parts.1)
+  step_linear (Term-F.Neg a) = a.1
+  step_linear (Term-F.Scale q a) = a.1
+
+  layer_linear : (y : Term-F ((t : Term) × IsLinearOf t)) → IsLinearOf (roll-Term (map-Term ((t : Term) × IsLinearOf t) Term (λ e. e.0) y))
+  layer_linear y =
+      let z = map-Term ((t : Term) × IsLinearOf t) Term (λ e. e.0) y in
+      λ e. fold-roll-Term Bool (linear_step consts.names) z ∙ step_linear y (sym (fold-roll-Term Bool (names_step consts s) z) ∙ e)
+
+  pub term_linear : (t : Term) → IsLinearOf t
+  term_linear t = ind-Term IsLinearOf (λ x y is. subst (λ z. IsLinearOf (roll-Term z)) is (layer_linear y)) t

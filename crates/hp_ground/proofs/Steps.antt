@@ -1,23 +1,21 @@
 -- Literals and lines that are added one by one.
-use Rattle.std.proofs.Common.{◌≡◌, ◌<◌, ◌≤◌, ℕ, zero, suc, ◌+◌, List, [], ◌∷◌, ◌++◌, ◌||◌, Bool, true, false, cond, length, get_or, drop, Some, Ok, Err, refl, sym, ap, subst, ◌∙◌, append_assoc, append-nil, arith}
+use Rattle.std.proofs.Common.{◌≡◌, ◌<◌, ◌≤◌, ℕ, zero, suc, ◌+◌, List, [], ◌∷◌, ◌++◌, ◌||◌, Bool, true, false, cond, length, get_or, drop, Some, Result, Ok, Err, refl, sym, ap, subst, ◌∙◌, append_assoc, append-nil, arith}
 use Rattle.std.specs.List.{All}
-use Rattle.std.proofs.lemmas.Bool.{and_parts}
 use Rattle.std.proofs.lemmas.List.{drop_more}
 use Rattle.std.proofs.lemmas.List.Elements.{All-nil, All-cons, All-append}
 use Rattle.hp_ast.specs.declared.problem.Atom.{Atom}
 use Rattle.hp_ast.specs.declared.problem.Clause.{Clause}
 use Rattle.hp_ast.specs.declared.problem.Sort.{Sort}
-use Rattle.hp_ast.specs.declared.problem.Sort.TheVariants as sort
 use Rattle.hp_base.specs.declared.literal.Lit.{Lit}
 use Rattle.hp_base.specs.declared.literal.Lit.TheVariants.{Num, Idx, Ptr}
 use Rattle.hp_base.specs.declared.line.Line.{Line}
-use Rattle.hp_norm.specs.declared.atoms.Side.{Side}
-use Rattle.hp_norm.specs.declared.atoms.Side.TheVariants.{Guard, Head}
-use Rattle.hp_norm.specs.declared.atoms.Step.{Step}
-use Rattle.hp_norm.specs.declared.atoms.Step.TheVariants.{Done, Other, Wide, Memory}
-use Rattle.hp_norm.specs.Literals.{IsIndexAtom, IsLightAtom, atom_literals, is_index_atom}
+use Rattle.hp_base.specs.declared.refusal.Refusal.{Refusal}
+use Rattle.hp_base.specs.declared.refusal.Refusal.TheVariants as refused
+use Rattle.hp_base.proofs.Growing.{begins_more, begins_same, begins_then}
+use Rattle.hp_model.specs.declared.sides.Side.{Side}
+use Rattle.hp_model.specs.declared.sides.Side.TheVariants.{Guard, Head}
+use Rattle.hp_norm.specs.Literals.{IsLightAtom, atom_literals}
 use Rattle.hp_norm.specs.Answers as index
-use Rattle.hp_linear.specs.declared.form.Refusal.TheVariants as refused
 use Rattle.hp_linear.specs.Steps.{Refusable, ◌>>=◌, behind}
 use Rattle.hp_linear.specs.Literals.{num_literals}
 use Rattle.hp_linear.specs.Normal.{IsNormal}
@@ -26,9 +24,9 @@ use Rattle.hp_linear.proofs.Refusals.{behind_behind, behind_nothing}
 use Rattle.hp_ground.specs.declared.consts.Consts.{Consts}
 use Rattle.hp_ground.specs.declared.lines.LineRead.TheVariants as line
 use Rattle.hp_ground.specs.declared.lines.LinesRead.TheVariants as lines
-use Rattle.hp_ground.specs.Ground.{IsGroundAtom, IsIdxAtom, IsNumAtom, is_idx_atom, is_num_atom, sides_have_sort}
+use Rattle.hp_ground.specs.Ground.{IsGroundAtom, IsIdxAtom, IsNumAtom, is_idx_atom, is_num_atom}
 use Rattle.hp_ground.specs.Lines.{HasRows, IsRow, atoms_literals, clause_literals, from_clause, is_wide, lines_from, literals_of, wide_from}
-use Rattle.hp_ground.specs.Answers.{LineFound, LinesFound, Pushed}
+use Rattle.hp_ground.specs.Answers.{LineFound, LinesFound, LitsFound, Pushed}
 use Rattle.hp_ground.proofs.Fine.{Fine}
 use Rattle.hp_ground.proofs.IdxRows.{idx_rows}
 use Rattle.hp_ground.proofs.NumNames.{IsLitNamed, num_fine}
@@ -48,37 +46,33 @@ num_row sorts (Ptr l) h g = absurd h
 num_rows : (sorts : List Sort) (ls : List Lit) → All (IsNormal (length sorts)) ls → All (IsLitNamed sorts) ls → All (IsRow sorts) ls
 num_rows sorts ls h g k d lt = num_row sorts (get_or ls k d) (h k d lt) (g k d lt)
 
-pub index_atom : (consts : Consts) (atom : Atom) → IsIdxAtom consts atom → IsIndexAtom consts.names atom
-index_atom consts atom is = (and_parts (sides_have_sort consts sort.Idx atom) (is_index_atom consts.names atom) is).1
-
 module _ (consts : Consts) (side : Side) (atom : Atom) (old new : List Lit) where
   fine_literals : IsNumAtom consts atom → (r : Refusable (List Lit)) → num_literals consts.names side atom ≡ r → Fine (All (IsLitNamed consts.sorts)) r
   fine_literals num r e = subst (Fine (All (IsLitNamed consts.sorts))) e (num_fine consts side atom num)
 
-  pub num_pushed : (step : Step) → length consts.sorts ≡ length consts.names → IsNumAtom consts atom
-      → linear.Pushed (length consts.names) (num_literals consts.names side atom) old new step → Pushed consts (literals_of consts side atom) old new step
-  num_pushed step pairs num h = by step h
+  pub num_pushed : (result : Result (Unit {0}) Refusal) → length consts.sorts ≡ length consts.names → IsNumAtom consts atom
+      → linear.Pushed (length consts.names) (num_literals consts.names side atom) old new result → Pushed consts (literals_of consts side atom) old new result
+  num_pushed result pairs num h = by result h
     where
       same : literals_of consts side atom ≡ num_literals consts.names side atom
       same = ap (λ b. cond b (num_literals consts.names side atom) (Ok (atom_literals consts.names side atom))) num
 
-      by : (step : Step) → linear.Pushed (length consts.names) (num_literals consts.names side atom) old new step → Pushed consts (literals_of consts side atom) old new step
-      by Done h = (
+      by : (result : Result (Unit {0}) Refusal) → linear.Pushed (length consts.names) (num_literals consts.names side atom) old new result → Pushed consts (literals_of consts side atom) old new result
+      by (Ok done) h = (
         h.0,
         same ∙ h.1,
         h.2,
         num_rows consts.sorts h.0 (subst (λ n. All (IsNormal n) h.0) (sym pairs) h.3) (fine_literals num (Ok h.0) h.1),
       )
-      by Other h = absurd (fine_literals num (Err refused.Other) h.0)
-      by Wide h = same ∙ h.0
-      by Memory h = tt
+      by (Err refused.Wide) h = (same ∙ h.0, begins_same old new h.1)
+      by (Err refused.Memory) h = h
 
   pub only_idx : is_num_atom consts atom ≡ false → IsGroundAtom consts atom → IsIdxAtom consts atom
   only_idx e ground = sym (ap (λ b. b || is_idx_atom consts atom) e) ∙ ground
 
-  pub idx_pushed : (step : Step) → is_num_atom consts atom ≡ false → IsGroundAtom consts atom → IsLightAtom atom
-      → index.AtomPushed consts.names side atom old new step → Pushed consts (literals_of consts side atom) old new step
-  idx_pushed step other ground light h = by step h
+  pub idx_pushed : (result : Result (Unit {0}) Refusal) → is_num_atom consts atom ≡ false → IsGroundAtom consts atom → IsLightAtom atom
+      → index.AtomPushed consts.names side atom old new result → Pushed consts (literals_of consts side atom) old new result
+  idx_pushed result other ground light h = by result h
     where
       same : literals_of consts side atom ≡ Ok (atom_literals consts.names side atom)
       same = ap (λ b. cond b (num_literals consts.names side atom) (Ok (atom_literals consts.names side atom))) other
@@ -86,11 +80,10 @@ module _ (consts : Consts) (side : Side) (atom : Atom) (old new : List Lit) wher
       is : IsIdxAtom consts atom
       is = only_idx other ground
 
-      by : (step : Step) → index.AtomPushed consts.names side atom old new step → Pushed consts (literals_of consts side atom) old new step
-      by Done h = (atom_literals consts.names side atom, same, h.0, idx_rows consts side atom is h.1)
-      by Other h = h (index_atom consts atom is)
-      by Wide h = absurd (h light)
-      by Memory h = tt
+      by : (result : Result (Unit {0}) Refusal) → index.AtomPushed consts.names side atom old new result → Pushed consts (literals_of consts side atom) old new result
+      by (Ok done) h = (atom_literals consts.names side atom, same, h.0, idx_rows consts side atom is h.1)
+      by (Err refused.Wide) h = absurd (h.0 light)
+      by (Err refused.Memory) h = h
 
 -- ---- the literals of the first atoms
 pub record AtomsSoFar (consts : Consts) (side : Side) (atoms : List Atom) (i : ℕ) (old lits : List Lit) : Type 0 where
@@ -110,21 +103,24 @@ module _ (consts : Consts) (side : Side) (atoms : List Atom) (old : List Lit) wh
       rest ∙ ap (λ (xs : List Atom). behind more (atoms_literals consts side xs)) (drop_more atoms i d h)
       ∙ ap (λ (x : Refusable (List Lit)). behind more (x >>= λ lits. behind lits (atoms_literals consts side (drop (i + 1) atoms)))) e
 
-  pub atom_more : (i : ℕ) (d : Atom) (lits new : List Lit) → i < length atoms → Pushed consts (literals_of consts side (get_or atoms i d)) lits new Done
+  pub atom_more : (i : ℕ) (d : Atom) (lits new : List Lit) (done : Unit {0}) → i < length atoms → Pushed consts (literals_of consts side (get_or atoms i d)) lits new (Ok done)
       → AtomsSoFar consts side atoms i old lits → AtomsSoFar consts side atoms (i + 1) old new
-  atom_more i d lits new h is so_far = record {
+  atom_more i d lits new done h is so_far = record {
     more = so_far.more ++ is.0;
     added = is.2 ∙ ap (λ (xs : List Lit). xs ++ is.0) so_far.added ∙ append_assoc old so_far.more is.0;
     rest = next_atom i d so_far.more (Ok is.0) h so_far.rest is.1 ∙ behind_behind so_far.more is.0 (atoms_literals consts side (drop (i + 1) atoms));
     rows = All-append (IsRow consts.sorts) so_far.more is.0 so_far.rows is.3;
   }
 
-  pub atom_wide : (i : ℕ) (d : Atom) (lits : List Lit) → i < length atoms → literals_of consts side (get_or atoms i d) ≡ Err refused.Wide
-      → AtomsSoFar consts side atoms i old lits → atoms_literals consts side atoms ≡ Err refused.Wide
-  atom_wide i d lits h e so_far = next_atom i d so_far.more (Err refused.Wide) h so_far.rest e
+  -- what was there before the first atom stays where one of them is refused
+  pub atom_refused : (i : ℕ) (d : Atom) (lits new : List Lit) (refusal : Refusal) → i < length atoms → Pushed consts (literals_of consts side (get_or atoms i d)) lits new (Err refusal)
+      → AtomsSoFar consts side atoms i old lits → Pushed consts (atoms_literals consts side atoms) old new (Err refusal)
+  atom_refused i d lits new refused.Wide h is so_far =
+      (next_atom i d so_far.more (Err refused.Wide) h so_far.rest is.0, begins_then old lits new (begins_more old so_far.more lits so_far.added) is.1)
+  atom_refused i d lits new refused.Memory h is so_far = begins_then old lits new (begins_more old so_far.more lits so_far.added) is
 
-  pub all_atoms : (i : ℕ) (lits : List Lit) → length atoms ≤ i → AtomsSoFar consts side atoms i old lits → Pushed consts (atoms_literals consts side atoms) old lits Done
-  all_atoms i lits h so_far = (
+  pub all_atoms : (i : ℕ) (lits : List Lit) → length atoms ≤ i → AtomsSoFar consts side atoms i old lits → (done : Unit {0}) → Pushed consts (atoms_literals consts side atoms) old lits (Ok done)
+  all_atoms i lits h so_far done = (
     so_far.more,
     so_far.rest ∙ ap (λ (xs : List Atom). behind so_far.more (atoms_literals consts side xs)) (drop_end atoms i h) ∙ ap (λ (xs : List Lit). Ok xs) (append-nil so_far.more),
     so_far.added,
@@ -132,7 +128,7 @@ module _ (consts : Consts) (side : Side) (atoms : List Atom) (old : List Lit) wh
   )
 
 -- ---- a line
-module _ (consts : Consts) (number : ℕ) (c : Clause) where
+module _ (consts : Consts) (c : Clause) where
   abbrev guard : Refusable (List Lit)
   guard = atoms_literals consts Guard c.guard
 
@@ -142,19 +138,23 @@ module _ (consts : Consts) (number : ℕ) (c : Clause) where
   both : (g h : Refusable (List Lit)) → guard ≡ g → head ≡ h → clause_literals consts c ≡ (g >>= λ lits. behind lits h)
   both g h p q = (λ i. p i >>= λ lits. behind lits (q i))
 
-  pub line_found : (first second : List Lit) → Pushed consts guard [] first Done → Pushed consts head first second Done
-      → LineFound consts number c (line.Read (from_clause number second))
-  line_found first second g h =
+  pub lits_found : (first second : List Lit) (done : Unit {0}) (end : Unit {0}) → Pushed consts guard [] first (Ok done) → Pushed consts head first second (Ok end) → LitsFound consts c (Ok second)
+  lits_found first second done end g h =
       let lits : second ≡ g.0 ++ h.0 = h.2 ∙ ap (λ (xs : List Lit). xs ++ h.0) g.2 in (
-        ap (λ (r : Refusable (List Lit)). r >>= λ ls. Ok (from_clause number ls)) (both (Ok g.0) (Ok h.0) g.1 h.1) ∙ ap (λ (ls : List Lit). Ok (from_clause number ls)) (sym lits),
+        both (Ok g.0) (Ok h.0) g.1 h.1 ∙ ap (λ (ls : List Lit). Ok ls) (sym lits),
         subst (All (IsRow consts.sorts)) (sym lits) (All-append (IsRow consts.sorts) g.0 h.0 g.3 h.3),
       )
 
-  pub guard_wide : guard ≡ Err refused.Wide → clause_literals consts c ≡ Err refused.Wide
-  guard_wide e = both (Err refused.Wide) head e refl
+  pub guard_refused : (new : List Lit) (refusal : Refusal) → Pushed consts guard [] new (Err refusal) → LitsFound consts c (Err refusal)
+  guard_refused new refused.Wide g = both (Err refused.Wide) head g.0 refl
+  guard_refused new refused.Memory g = tt
 
-  pub head_wide : (first : List Lit) → Pushed consts guard [] first Done → head ≡ Err refused.Wide → clause_literals consts c ≡ Err refused.Wide
-  head_wide first g e = both (Ok g.0) (Err refused.Wide) g.1 e
+  pub head_refused : (first new : List Lit) (done : Unit {0}) (refusal : Refusal) → Pushed consts guard [] first (Ok done) → Pushed consts head first new (Err refusal) → LitsFound consts c (Err refusal)
+  head_refused first new done refused.Wide g h = both (Ok g.0) (Err refused.Wide) g.1 h.0
+  head_refused first new done refused.Memory g h = tt
+
+  pub line_found : (number : ℕ) (lits : List Lit) → LitsFound consts c (Ok lits) → LineFound consts number c (line.Read (from_clause number lits))
+  line_found number lits h = (ap (λ (r : Refusable (List Lit)). r >>= λ ls. Ok (from_clause number ls)) h.0, h.1)
 
 -- ---- the lines of the first clauses
 pub record LinesSoFar (consts : Consts) (clauses : List Clause) (i : ℕ) (made : List Line) : Type 0 where

@@ -1,5 +1,5 @@
 -- What each call answers.
-use Rattle.std.specs.Prelude.{◌≡◌, ℕ, ◌+◌, ◌<◌, ◌≤◌, List, [], ◌++◌, length, map, Bool, ◌&&◌, Some, Ok, Err, nat_eq}
+use Rattle.std.specs.Prelude.{◌≡◌, ℕ, ◌+◌, ◌<◌, ◌≤◌, List, [], ◌++◌, length, map, Bool, ◌&&◌, Some, Result, Ok, Err, nat_eq}
 use Rattle.std.specs.List.{All, list_all}
 use Rattle.hp_ast.specs.declared.problem.Clause.{Clause}
 use Rattle.hp_ast.specs.declared.problem.Decl.{Decl}
@@ -7,10 +7,10 @@ use Rattle.hp_ast.specs.declared.problem.Problem.{Problem}
 use Rattle.hp_base.specs.declared.literal.Lit.{Lit}
 use Rattle.hp_base.specs.Names.{NameList}
 use Rattle.hp_model.specs.WellFormed.{constants as declarations}
-use Rattle.hp_norm.specs.Numbered.{AreDistinct}
-use Rattle.hp_norm.specs.declared.atoms.Step.{Step}
-use Rattle.hp_norm.specs.declared.atoms.Step.TheVariants as step
-use Rattle.hp_linear.specs.declared.form.Refusal.TheVariants as refused
+use Rattle.hp_names.specs.Names.{AreDistinct}
+use Rattle.hp_base.specs.declared.refusal.Refusal.{Refusal}
+use Rattle.hp_base.specs.declared.refusal.Refusal.TheVariants as refused
+use Rattle.hp_base.specs.Growing.{Begins}
 use Rattle.hp_linear.specs.Steps.{Refusable}
 use Rattle.hp_ground.specs.declared.consts.Consts.{Consts}
 use Rattle.hp_ground.specs.declared.consts.ConstsRead.{ConstsRead}
@@ -40,12 +40,16 @@ abbrev pub clause_is_ground : Consts → Clause → Bool
 clause_is_ground consts clause = (nat_eq (length clause.vars) 0 && list_all (is_ground_atom consts) clause.guard) && list_all (is_ground_atom consts) clause.head
 
 -- ---- literals and lines
--- literals that the search can take behind those that are there, or a number that is too wide
-abbrev pub Pushed : Consts → Refusable (List Lit) → List Lit → List Lit → Step → Type 0
-Pushed consts wanted old new step.Done = (more : List Lit) × (wanted ≡ Ok more) × (new ≡ old ++ more) × All (IsRow consts.sorts) more
-Pushed consts wanted old new step.Other = ⊥
-Pushed consts wanted old new step.Wide = wanted ≡ Err refused.Wide
-Pushed consts wanted old new step.Memory = Unit {0}
+-- literals that the search can take behind those that are there, which stay where a number is too wide
+abbrev pub Pushed : Consts → Refusable (List Lit) → List Lit → List Lit → Result (Unit {0}) Refusal → Type 0
+Pushed consts wanted old new (Ok done) = (more : List Lit) × (wanted ≡ Ok more) × (new ≡ old ++ more) × All (IsRow consts.sorts) more
+Pushed consts wanted old new (Err refused.Wide) = (wanted ≡ Err refused.Wide) × Begins old new
+Pushed consts wanted old new (Err refused.Memory) = Begins old new
+
+abbrev pub LitsFound : Consts → Clause → Refusable (List Lit) → Type 0
+LitsFound consts clause (Ok lits) = (clause_literals consts clause ≡ Ok lits) × All (IsRow consts.sorts) lits
+LitsFound consts clause (Err refused.Wide) = clause_literals consts clause ≡ Err refused.Wide
+LitsFound consts clause (Err refused.Memory) = Unit {0}
 
 abbrev pub LineFound : Consts → ℕ → Clause → LineRead → Type 0
 LineFound consts number clause (line.Read l) = (line_of consts number clause ≡ Ok l) × HasRows consts.sorts l

@@ -18,11 +18,11 @@ use Rattle.hp_base.specs.declared.names.Constant.{Constant}
 use Rattle.hp_base.specs.declared.names.Ground.{Ground}
 use Rattle.hp_base.specs.Names.{sorts}
 use Rattle.hp_model.specs.WellFormed.{Declared, constants as declarations}
-use Rattle.hp_norm.specs.declared.atoms.Side.{Side}
-use Rattle.hp_norm.specs.declared.atoms.Side.TheVariants.{Guard, Head}
+use Rattle.hp_model.specs.declared.sides.Side.{Side}
+use Rattle.hp_model.specs.declared.sides.Side.TheVariants.{Guard, Head}
 use Rattle.hp_norm.specs.Forms.{IsSmall}
 use Rattle.hp_norm.specs.Literals.{atom_literals}
-use Rattle.hp_linear.specs.declared.form.Refusal.TheVariants as refused
+use Rattle.hp_base.specs.declared.refusal.Refusal.TheVariants as refused
 use Rattle.hp_linear.specs.Steps.{Refusable, ◌>>=◌, behind}
 use Rattle.hp_linear.specs.Literals.{num_literals}
 use Rattle.hp_linear.specs.Normal.{IsNormalNum}
@@ -60,7 +60,6 @@ lines_from consts number (clause ∷ clauses) = line_of consts number clause >>=
 -- ---- numbers that are too wide
 abbrev pub is_wide : {A : Type 0} → Refusable A → Bool
 is_wide (Ok x) = false
-is_wide (Err refused.Other) = false
 is_wide (Err refused.Wide) = true
 is_wide (Err refused.Memory) = false
 

@@ -9,7 +9,7 @@ ghost use Rattle.hp_ground.specs.Answers.{AreNamesOf, ConstsFound};
 
 use hp_ast::{Decl, Sort};
 use hp_base::Names;
-use hp_norm::NameIndex;
+use hp_names::NameIndex;
 use hp_num::{List, Text};
 use std::alloc::{AllocError, Global};
 

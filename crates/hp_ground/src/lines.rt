@@ -5,14 +5,15 @@ ghost use Rattle.std.specs.List.{All, list_all};
 ghost use Rattle.hp_norm.specs.Literals.{IsLightAtom, IsLightClause};
 ghost use Rattle.hp_ground.specs.Ground.{IsGroundAtom, IsGroundClause};
 ghost use Rattle.hp_ground.specs.Lines.{atoms_literals, literals_of};
-ghost use Rattle.hp_ground.specs.Answers.{LineFound, LinesFound, Pushed};
+ghost use Rattle.hp_ground.specs.Answers.{LineFound, LinesFound, LitsFound, Pushed};
 
 use crate::consts::Consts;
 use crate::forms::is_num_atom;
 use hp_ast::{Atom, Clause};
-use hp_base::{Line, Lit, Origin};
+use hp_base::{Line, Lit, Origin, Refusal};
 use hp_linear::literals as num_literals;
-use hp_norm::{Side, Step, literals as idx_literals};
+use hp_model::Side;
+use hp_norm::literals as idx_literals;
 use hp_num::List;
 use std::alloc::Global;
 
@@ -57,7 +58,7 @@ pub fn lines_of(alloc: Global, consts: &Consts, clauses: &[Clause]) -> LinesRead
     LinesRead::Read(lines)
 }
 
-/// The line of the clause of this number. Its atoms are of sort num or idx, so that no `Step::Other` comes.
+/// The line of the clause of this number.
 fn line_of(alloc: Global, consts: &Consts, number: u32, clause: &Clause) -> LineRead
     requires few { length consts.now.names ≤ 4000 }
     requires sorts { length consts.now.sorts ≡ length consts.now.names }
@@ -65,41 +66,44 @@ fn line_of(alloc: Global, consts: &Consts, number: u32, clause: &Clause) -> Line
     requires light { IsLightClause clause.now }
     ensures { LineFound consts.now number clause.now result }
 {
+    match lits_of(alloc, consts, clause) {
+        Err(Refusal::Wide) => LineRead::Wide,
+        Err(Refusal::Memory) => LineRead::Memory,
+        Ok(lits) => LineRead::Read(Line {
+            lits,
+            origin: Origin::Ground { clause: number },
+        }),
+    }
+}
+
+/// The literals of the guard's atoms, and then those of the head's.
+fn lits_of(alloc: Global, consts: &Consts, clause: &Clause) -> Result<List<Lit>, Refusal>
+    requires few { length consts.now.names ≤ 4000 }
+    requires sorts { length consts.now.sorts ≡ length consts.now.names }
+    requires ground { IsGroundClause consts.now clause.now }
+    requires light { IsLightClause clause.now }
+    ensures { LitsFound consts.now clause.now result }
+{
     let mut lits: List<Lit> = List::new(alloc);
-    match push_atoms(
+    push_atoms(
         alloc,
         consts,
         Side::Guard,
         clause.guard.as_slice(),
         &mut lits,
-    ) {
-        Step::Other | Step::Wide => LineRead::Wide,
-        Step::Memory => LineRead::Memory,
-        Step::Done => match push_atoms(
-            alloc,
-            consts,
-            Side::Head,
-            clause.head.as_slice(),
-            &mut lits,
-        ) {
-            Step::Other | Step::Wide => LineRead::Wide,
-            Step::Memory => LineRead::Memory,
-            Step::Done => LineRead::Read(Line {
-                lits,
-                origin: Origin::Ground { clause: number },
-            }),
-        },
-    }
+    )?;
+    push_atoms(alloc, consts, Side::Head, clause.head.as_slice(), &mut lits)?;
+    Ok(lits)
 }
 
-/// Adds the literals of atoms in their order behind those that are there.
+/// Adds the literals of atoms in their order behind those that are there, which stay at a refusal too.
 fn push_atoms(
     alloc: Global,
     consts: &Consts,
     side: Side,
     atoms: &[Atom],
     lits: &mut List<Lit>,
-) -> Step
+) -> Result<(), Refusal>
     requires few { length consts.now.names ≤ 4000 }
     requires sorts { length consts.now.sorts ≡ length consts.now.names }
     requires ground { All (IsGroundAtom consts.now) atoms.now }
@@ -107,18 +111,19 @@ fn push_atoms(
     ensures { Pushed consts.now (atoms_literals consts.now side atoms.now) lits.old lits.new result }
 {
     for atom in atoms {
-        match push_atom(alloc, consts, side, atom, lits) {
-            Step::Done => {}
-            Step::Other => return Step::Other,
-            Step::Wide => return Step::Wide,
-            Step::Memory => return Step::Memory,
-        }
+        push_atom(alloc, consts, side, atom, lits)?;
     }
-    Step::Done
+    Ok(())
 }
 
-/// Adds the literals of an atom behind those that are there.
-fn push_atom(alloc: Global, consts: &Consts, side: Side, atom: &Atom, lits: &mut List<Lit>) -> Step
+/// Adds the literals of an atom of sort num or idx behind those that are there, which stay at a refusal too.
+fn push_atom(
+    alloc: Global,
+    consts: &Consts,
+    side: Side,
+    atom: &Atom,
+    lits: &mut List<Lit>,
+) -> Result<(), Refusal>
     requires few { length consts.now.names ≤ 4000 }
     requires sorts { length consts.now.sorts ≡ length consts.now.names }
     requires ground { IsGroundAtom consts.now atom.now }

@@ -5,11 +5,10 @@ use Rattle.hp_math.specs.Rational.{ℚ, ratio, whole, ◌+ℚ◌, ◌-ℚ◌, �
 use Rattle.hp_math.proofs.Whole.{*ℤ_mono, *ℤ_smono, *ℤ-≤_cancel, *ℤ-<_cancel, *ℤ_cancel}
 use Rattle.hp_math.proofs.Rational.{ratio-≤, ratio-≤_out, ratio-<, ratio-<_out, ratio-inj}
 use Rattle.hp_math.proofs.Field.{at_one, by_common1, by_common2, fractions, whole_at, whole_times_at}
-use Rattle.hp_math.proofs.Laws.{neg_ℚ-neg_ℚ}
+use Rattle.hp_math.proofs.Laws.{neg_ℚ-neg_ℚ, whole-neg}
 use Rattle.hp_base.specs.declared.literal.Rel.{Rel}
 use Rattle.hp_base.specs.declared.literal.Rel.TheVariants.{Le, Lt, Eq}
 use Rattle.hp_base.specs.Truth.{Compares}
-use Rattle.hp_norm.proofs.Numbers.{neg-whole}
 
 pub and_then : {A B C : Type 0} → A ↔ B → B ↔ C → A ↔ C
 and_then h g = (λ a. g.0 (h.0 a), λ c. h.1 (g.1 c))
@@ -90,6 +89,6 @@ difference_compares Eq x y = (difference_eq x y, eq_difference x y)
 -- a whole number on the right, with its sign changed
 pub moved_compares : (r : Rel) (x : ℚ) (n : ℤ) → Compares r x (whole (neg_ℤ n)) ↔ Compares r (x +ℚ whole n) (whole (pos 0))
 moved_compares r x n =
-    let same : x -ℚ whole (neg_ℤ n) ≡ x +ℚ whole n = ap (λ y. x +ℚ y) (ap neg_ℚ (sym (neg-whole n)) ∙ neg_ℚ-neg_ℚ (whole n)) in
+    let same : x -ℚ whole (neg_ℤ n) ≡ x +ℚ whole n = ap (λ y. x +ℚ y) (ap neg_ℚ (sym (whole-neg n)) ∙ neg_ℚ-neg_ℚ (whole n)) in
     let h = difference_compares r x (whole (neg_ℤ n)) in
     (λ g. subst (λ z. Compares r z (whole (pos 0))) same (h.1 g), λ g. h.0 (subst (λ z. Compares r z (whole (pos 0))) (sym same) g))

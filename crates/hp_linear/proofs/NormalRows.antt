@@ -1,5 +1,5 @@
 -- The literals of an atom are in normal form.
-use Rattle.std.proofs.Common.{◌≡◌, ℕ, zero, suc, ◌*◌, ◌/◌, ◌<◌, ◌≤◌, ◌^◌, ℤ, pos, neg_ℤ, ◌*ℤ◌, unsigned_abs, List, [], ◌∷◌, map, length, Ok, sym, ap, subst, ◌∙◌, arith}
+use Rattle.std.proofs.Common.{◌≡◌, ℕ, zero, suc, ◌*◌, ◌/◌, ◌<◌, ◌≤◌, ◌^◌, ℤ, pos, neg_ℤ, ◌*ℤ◌, unsigned_abs, List, [], ◌∷◌, map, length, Result, Ok, Err, sym, ap, subst, ◌∙◌, arith}
 use Rattle.std.specs.Prelude.{int_div}
 use Rattle.std.specs.List.{All}
 use Rattle.std.proofs.lemmas.Int.{ints}
@@ -17,14 +17,15 @@ use Rattle.hp_base.specs.declared.literal.Part.{Part}
 use Rattle.hp_base.specs.declared.literal.Rel.{Rel}
 use Rattle.hp_base.specs.declared.literal.Rel.TheVariants as rel
 use Rattle.hp_base.specs.declared.literal.Lit.{Lit}
-use Rattle.hp_norm.specs.declared.atoms.Side.{Side}
-use Rattle.hp_norm.specs.declared.atoms.Step.{Step}
-use Rattle.hp_norm.specs.declared.atoms.Step.TheVariants.{Done, Other, Wide, Memory}
-use Rattle.hp_norm.specs.Literals.{taken}
+use Rattle.hp_base.specs.declared.refusal.Refusal.{Refusal}
+use Rattle.hp_base.specs.declared.refusal.Refusal.TheVariants.{Wide, Memory}
+use Rattle.hp_base.specs.Words.{Word}
+use Rattle.hp_model.specs.declared.sides.Side.{Side}
+use Rattle.hp_model.specs.Sides.{taken}
 use Rattle.hp_linear.specs.declared.form.Summand.{Summand}
 use Rattle.hp_linear.specs.declared.form.Form.{Form}
 use Rattle.hp_linear.specs.declared.wholes.Row.{Row}
-use Rattle.hp_linear.specs.Steps.{◌>>=◌, behind}
+use Rattle.hp_linear.specs.Steps.{Refusable, ◌>>=◌, behind}
 use Rattle.hp_linear.specs.Forms.{lin_of, minus_form}
 use Rattle.hp_linear.specs.Wholes.{denominator_of, lowest_row, one_if_zero, over, row_divisor, row_of, row_over, row_with, scaled_number, scaled_parts, scaled_row, whole_copies}
 use Rattle.hp_linear.specs.Literals.{apart_literals, compared, literals, num_literals, one_literal, row_literal}
@@ -149,23 +150,24 @@ module _ (count : ℕ) where
   literals_normal Gt l m lits p q e = one_normal rel.Lt m l lits q p e
 
 -- ---- what was added for the two forms of an atom
-pub literals_pushed : (names : List (List ℕ)) (side : Side) (atom : Atom) (cmp : Cmp) (l r : Form) (old new : List Lit) (step : Step)
-    → lin_of names atom.left ≡ Ok l → lin_of names atom.right ≡ Ok r → cmp ≡ taken side atom.cmp → Written (literals cmp l r) old new step
-    → Pushed (length names) (num_literals names side atom) old new step
-literals_pushed names side atom cmp l r old new step e g k h =
-    by step (subst (λ (c : Cmp). Written (literals c l r) old new step) k h)
-  where
-    -- the literals of the atom are those of its forms
-    found : num_literals names side atom ≡ literals (taken side atom.cmp) l r
-    found = (λ i. e i >>= λ left. g i >>= λ right. literals (taken side atom.cmp) left right)
+module _ (words : List Word) (side : Side) (atom : Atom) (old new : List Lit) where
+  abbrev IsAnswer : Refusable (List Lit) → Result (Unit {0}) Refusal → Type 0
+  IsAnswer wanted result = Pushed (length words) wanted old new result
 
-    by : (step : Step) → Written (literals (taken side atom.cmp) l r) old new step → Pushed (length names) (num_literals names side atom) old new step
-    by Done h = (
-      h.0,
-      found ∙ h.1,
-      h.2,
-      literals_normal (length names) (taken side atom.cmp) l r h.0 (term_normal names atom.left l e) (term_normal names atom.right r g) h.1,
-    )
-    by Other h = (found ∙ h.0, h.1)
-    by Wide h = (found ∙ h.0, h.1)
-    by Memory h = tt
+  pub literals_pushed : (cmp : Cmp) (l r : Form) (result : Result (Unit {0}) Refusal) → lin_of words atom.left ≡ Ok l → lin_of words atom.right ≡ Ok r → cmp ≡ taken side atom.cmp
+      → Written (literals cmp l r) old new result → IsAnswer (num_literals words side atom) result
+  literals_pushed cmp l r result e g k h = by result (subst (λ (c : Cmp). Written (literals c l r) old new result) k h)
+    where
+      -- the literals of the atom are those of its forms
+      found : num_literals words side atom ≡ literals (taken side atom.cmp) l r
+      found = (λ i. e i >>= λ left. g i >>= λ right. literals (taken side atom.cmp) left right)
+
+      by : (result : Result (Unit {0}) Refusal) → Written (literals (taken side atom.cmp) l r) old new result → IsAnswer (num_literals words side atom) result
+      by (Ok done) h = (
+        h.0,
+        found ∙ h.1,
+        h.2,
+        literals_normal (length words) (taken side atom.cmp) l r h.0 (term_normal words atom.left l e) (term_normal words atom.right r g) h.1,
+      )
+      by (Err Wide) h = (found ∙ h.0, h.1)
+      by (Err Memory) h = h

@@ -1,22 +1,20 @@
 -- The summands of a form rise by their names, and none has the coefficient 0.
 use Rattle.std.proofs.Common.{◌≡◌, ℕ, suc, ◌<◌, ◌≤◌, Bool, true, false, cond, nat_lt, pos, List, [], ◌∷◌, ◌++◌, Option, Some, None, map, length, Ok, refl, sym, ap, subst, ◌∙◌, arith}
-use Rattle.std.specs.Str.{bytes_eq}
 use Rattle.std.proofs.lemmas.Int.{ints}
 use Rattle.std.proofs.lemmas.Bool.{ltb-true, ltb-false}
-use Rattle.std.proofs.lemmas.List.Quantifiers.{position-Some}
 use Rattle.hp_math.specs.Rational.{ℚ, whole, neg_ℚ, eq_ℚ}
 use Rattle.hp_math.proofs.Parts.{whole-parts}
 use Rattle.hp_math.proofs.Laws.{neg_ℚ-neg_ℚ}
 use Rattle.hp_ast.specs.declared.term.Term.{Term, fold-roll-Term, ind-Term, roll-Term, map-Term}
 use Rattle.hp_ast.specs.declared.term.Term.TheOpen.{Term-F}
 use Rattle.hp_base.specs.declared.literal.Name.{Name}
-use Rattle.hp_norm.specs.Numbered.{number}
-use Rattle.hp_norm.proofs.Numbers.{eq_ℚ-from}
-use Rattle.hp_norm.proofs.Semantics.{numbered}
+use Rattle.hp_base.specs.Words.{Word, number}
+use Rattle.hp_base.proofs.Words.{numbered}
+use Rattle.hp_model.proofs.Compares.{eq_ℚ-from}
 use Rattle.hp_linear.specs.declared.form.Summand.{Summand}
 use Rattle.hp_linear.specs.declared.form.Form.{Form}
 use Rattle.hp_linear.specs.Steps.{Refusable, ◌>>=◌, behind}
-use Rattle.hp_linear.specs.Forms.{copies, form_step, form_with, lin_of, minus_form, named_form, neg_form, neg_summand, number_form, plus_form, plus_summands, product_of, sum_of, times_form, times_summands, unless_zero}
+use Rattle.hp_linear.specs.Forms.{copies, form_step, form_with, lin_of, minus_form, named_form, neg_form, neg_summand, number_form, plus_form, plus_summands, product_of, sum_of, times_form, times_summands, unless_zero, zero_form}
 use Rattle.hp_linear.proofs.Refusals.{came, ok_same}
 use Rattle.hp_linear.proofs.Fields.{neg_zero}
 
@@ -134,19 +132,21 @@ module _ (names : List (List ℕ)) where
   unfolding AreNormal
   nothing_normal f c e = subst (IsNormalForm (length names)) e tt
 
-  one_normal : (n : List ℕ) (name : Name) (f : Form) → number names n ≡ Some name → form_with (copies name (whole (pos 1)) ∷ []) (whole (pos 0)) ≡ f → IsNormalForm (length names) f
+  one_normal : (n : Word) (name : Name) (f : Form) → number names n ≡ Some name → form_with (copies name (whole (pos 1)) ∷ []) (whole (pos 0)) ≡ f → IsNormalForm (length names) f
   unfolding AreNormal
   one_normal n name f e g =
       let at = numbered names n name e in
-      let found = position-Some (bytes_eq n) names name.0 [] at.at in
-      subst (IsNormalForm (length names)) g (record { rising = omega arith; declared = found.0; some = one_some }, tt)
+      subst (IsNormalForm (length names)) g (record { rising = omega arith; declared = at.within; some = one_some }, tt)
 
-  named_normal : (n : List ℕ) → GivesNormal (named_form (number names n))
+  zero_normal : GivesNormal (Ok zero_form)
+  zero_normal = λ f e. nothing_normal f (whole (pos 0)) (ok_same zero_form f e)
+
+  named_normal : (n : Word) → GivesNormal (Ok (named_form (number names n)))
   named_normal n = by (number names n) refl
     where
-      by : (o : Option Name) → number names n ≡ o → GivesNormal (named_form o)
-      by None e f g = absurd (cc)
-      by (Some name) e f g = one_normal n name f e (ok_same (form_with (copies name (whole (pos 1)) ∷ []) (whole (pos 0))) f g)
+      by : (o : Option Name) → number names n ≡ o → GivesNormal (Ok (named_form o))
+      by None e = zero_normal
+      by (Some name) e = λ f g. one_normal n name f e (ok_same (form_with (copies name (whole (pos 1)) ∷ []) (whole (pos 0))) f g)
 
   abbrev Fits : Term → Type 0
   Fits t = GivesNormal (lin_of names t)
@@ -170,9 +170,9 @@ module _ (names : List (List ℕ)) where
 
   step_normal : (y : Term-F ((t : Term) × Fits t)) → GivesNormal (form_step names (map-Term Term (Refusable Form) (lin_of names) (map-Term ((t : Term) × Fits t) Term (λ e. e.0) y)))
   step_normal (Term-F.Number q) = λ f e. nothing_normal f q (ok_same (number_form q) f e)
-  step_normal Term-F.Null = λ f e. absurd (cc)
+  step_normal Term-F.Null = zero_normal
   step_normal (Term-F.Name n) = named_normal n
-  step_normal (Term-F.Apply func args) = λ f e. absurd (cc)
+  step_normal (Term-F.Apply func args) = zero_normal
   step_normal (Term-F.Add a b) = both_normal plus_form (lin_of names a.0) (lin_of names b.0) (plus_form-normal (length names)) a.1 b.1
   step_normal (Term-F.Sub a b) = both_normal minus_form (lin_of names a.0) (lin_of names b.0) (minus_form-normal (length names)) a.1 b.1
   step_normal (Term-F.Neg a) = neg_gives (lin_of names a.0) a.1

@@ -1,8 +1,8 @@
 -- Computations that may be refused, step by step.
 use Rattle.std.proofs.Common.{◌≡◌, List, [], ◌++◌, Result, Ok, Err, IfOk, refl, sym, ap, subst, append_assoc}
 use Rattle.hp_num.specs.declared.wide.Wide.{Wide as TooWide}
-use Rattle.hp_linear.specs.declared.form.Refusal.{Refusal}
-use Rattle.hp_linear.specs.declared.form.Refusal.TheVariants.{Other, Wide, Memory}
+use Rattle.hp_base.specs.declared.refusal.Refusal.{Refusal}
+use Rattle.hp_base.specs.declared.refusal.Refusal.TheVariants.{Wide, Memory}
 use Rattle.hp_linear.specs.Steps.{Refusable, ◌>>=◌, behind, unless_wide}
 use Rattle.hp_linear.specs.Answers.{Answers}
 
@@ -21,7 +21,6 @@ unless_wide_exact P (Err y) x h e = absurd (cc)
 
 -- ---- what calls answer
 pub refused_first : {A B : Type 0} (r : Refusable A) (f : A → Refusable B) (e : Refusal) → Answers r (Err e) → Answers (r >>= f) (Err e)
-refused_first r f Other h = ap (λ x. x >>= f) h
 refused_first r f Wide h = ap (λ x. x >>= f) h
 refused_first r f Memory h = tt
 
@@ -37,7 +36,6 @@ short_memory r e h = subst (λ x. Answers r (Err x)) (sym h) tt
 -- an operation on numbers answers exactly
 pub answers_exact : {A : Type 0} (r a : Refusable A) → a ≡ r → Answers r a
 answers_exact r (Ok x) e = sym e
-answers_exact r (Err Other) e = sym e
 answers_exact r (Err Wide) e = sym e
 answers_exact r (Err Memory) e = tt
 

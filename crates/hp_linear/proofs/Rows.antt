@@ -22,7 +22,7 @@ use Rattle.hp_base.specs.declared.literal.Lit.{Lit}
 use Rattle.hp_linear.specs.declared.form.Summand.{Summand}
 use Rattle.hp_linear.specs.declared.form.Form.{Form}
 use Rattle.hp_linear.specs.declared.wholes.Row.{Row}
-use Rattle.hp_linear.specs.declared.form.Refusal.TheVariants.{Wide}
+use Rattle.hp_base.specs.declared.refusal.Refusal.TheVariants.{Wide}
 use Rattle.hp_linear.specs.Steps.{◌>>=◌, behind, gcd, unless_wide}
 use Rattle.hp_linear.specs.Forms.{minus_form}
 use Rattle.hp_linear.specs.Wholes.{denominator_of, lcm_of, lowest_row, multiple_of, one_if_zero, over, parts_divisor, row_divisor, row_of, row_over, row_with, scaled_number, scaled_parts, scaled_row, whole_copies}

@@ -1,5 +1,5 @@
 -- One of the literals of an atom is true exactly where the atom is as its side asks.
-use Rattle.std.proofs.Common.{◌≡◌, ◌↔◌, ◌⊎◌, Bool, true, not, List, [], ◌∷◌, Ok, map, sym, subst, ◌∙◌, inl, inr}
+use Rattle.std.proofs.Common.{◌≡◌, ◌↔◌, ◌⊎◌, Bool, true, not, List, [], ◌∷◌, Ok, sym, subst, ◌∙◌, inl, inr}
 use Rattle.hp_math.specs.Rational.{ℚ, ◌<ℚ◌, le_ℚ, lt_ℚ, eq_ℚ}
 use Rattle.hp_math.proofs.Field.{le_ℚ-true, lt_ℚ-true}
 use Rattle.hp_ast.specs.declared.problem.Cmp.{Cmp}
@@ -9,14 +9,12 @@ use Rattle.hp_base.specs.declared.literal.Rel.TheVariants as rel
 use Rattle.hp_base.specs.declared.literal.Lit.{Lit}
 use Rattle.hp_base.specs.Truth.{Values, Compares, LineIsTrue}
 use Rattle.hp_model.specs.Value.{compares}
-use Rattle.hp_norm.proofs.Numbers.{le_ℚ-from, lt_ℚ-from, eq_ℚ-from, eq_ℚ-true}
-use Rattle.hp_norm.specs.Literals.{taken}
-use Rattle.hp_norm.proofs.Truth.{less_differs, more_differs, not_true, one_less, taken_asks}
+use Rattle.hp_model.specs.Sides.{asked, taken}
+use Rattle.hp_model.proofs.Compares.{eq_ℚ-from, eq_ℚ-true, le_ℚ-from, less_differs, lt_ℚ-from, more_differs, not_true, one_less, taken_asks}
 use Rattle.hp_linear.specs.declared.form.Form.{Form}
 use Rattle.hp_linear.specs.Steps.{◌>>=◌}
 use Rattle.hp_linear.specs.Forms.{lin_of}
 use Rattle.hp_linear.specs.Literals.{apart_literals, compared, literals, one_literal}
-use Rattle.hp_norm.specs.Values.{asked, entry_name, entry_value}
 use Rattle.hp_linear.specs.Values.{form_value}
 use Rattle.hp_linear.specs.Laws.{LiteralsAreTrueWithAtoms}
 use Rattle.hp_linear.proofs.Compare.{and_then}
@@ -78,12 +76,10 @@ module _ (v : Values) where
   literals_say Gt l m lits e = one_says rel.Lt m l (lt_ℚ (form_value v m) (form_value v l)) lits (lt_test (form_value v m) (form_value v l)) e
 
 pub literals_are_true_with_atoms : LiteralsAreTrueWithAtoms
-literals_are_true_with_atoms es functions side atom lits e =
-    let names = map entry_name es in
-    let v = map entry_value es in
-    let one = came (lin_of names atom.left) (λ l. lin_of names atom.right >>= λ r. literals (taken side atom.cmp) l r) lits e in
-    let two = came (lin_of names atom.right) (λ r. literals (taken side atom.cmp) one.value r) lits one.rest in
-    let left = terms_have_form_values es functions atom.left one.value one.first in
-    let right = terms_have_form_values es functions atom.right two.value two.first in
+literals_are_true_with_atoms words v env functions side atom lits agrees linear-left linear-right e =
+    let one = came (lin_of words atom.left) (λ l. lin_of words atom.right >>= λ r. literals (taken side atom.cmp) l r) lits e in
+    let two = came (lin_of words atom.right) (λ r. literals (taken side atom.cmp) one.value r) lits one.rest in
+    let left = terms_have_form_values words v env functions atom.left one.value agrees linear-left one.first in
+    let right = terms_have_form_values words v env functions atom.right two.value agrees linear-right two.first in
     let truth = taken_asks side atom.cmp (form_value v one.value) (form_value v two.value) ∙ (λ i. asked side (compares atom.cmp (sym left i) (sym right i))) in
     subst (λ (b : Bool). LineIsTrue v lits ↔ (b ≡ true)) truth (literals_say v (taken side atom.cmp) one.value two.value lits two.rest)

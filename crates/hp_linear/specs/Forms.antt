@@ -1,14 +1,13 @@
--- Linear forms: fractions of copies of constants, in the order of the constants, and a fraction; and the form of a term.
-use Rattle.std.specs.Prelude.{ℕ, List, [], ◌∷◌, map, Option, Some, None, Ok, Err, unsigned_abs, pos, if◌then◌else◌, nat_lt}
+-- Linear forms: fractions of copies of names, in the order of the names, and a fraction; and the form of a term.
+use Rattle.std.specs.Prelude.{ℕ, Bool, true, false, ◌&&◌, List, [], ◌∷◌, map, Option, Some, None, is_some, Ok, unsigned_abs, pos, if◌then◌else◌, nat_lt}
 use Rattle.hp_math.specs.Rational.{ℚ, whole, neg_ℚ, eq_ℚ}
 use Rattle.hp_num.specs.Wide.{add_over, mul_over}
 use Rattle.hp_ast.specs.declared.term.Term.{Term, fold-Term}
 use Rattle.hp_ast.specs.declared.term.Term.TheOpen.{Term-F}
 use Rattle.hp_base.specs.declared.literal.Name.{Name}
-use Rattle.hp_norm.specs.Numbered.{number}
+use Rattle.hp_base.specs.Words.{Word, number}
 use Rattle.hp_linear.specs.declared.form.Summand.{Summand}
 use Rattle.hp_linear.specs.declared.form.Form.{Form}
-use Rattle.hp_linear.specs.declared.form.Refusal.TheVariants.{Other}
 use Rattle.hp_linear.specs.Steps.{Refusable, ◌>>=◌, behind, unless_wide, gcd}
 
 -- ---- fractions
@@ -49,10 +48,13 @@ form_with summands constant = record { summands = summands; constant = constant 
 abbrev pub number_form : ℚ → Form
 number_form q = form_with [] q
 
--- a name that is none of the constants is no linear term
-abbrev pub named_form : Option Name → Refusable Form
-named_form None = Err Other
-named_form (Some name) = Ok (form_with (copies name (whole (pos 1)) ∷ []) (whole (pos 0)))
+-- what is no linear term counts as 0
+abbrev pub zero_form : Form
+zero_form = number_form (whole (pos 0))
+
+abbrev pub named_form : Option Name → Form
+named_form None = zero_form
+named_form (Some name) = form_with (copies name (whole (pos 1)) ∷ []) (whole (pos 0))
 
 abbrev pub plus_form : Form → Form → Refusable Form
 plus_form f g =
@@ -73,16 +75,31 @@ times_form q f =
     product_of q f.constant >>= λ constant.
     Ok (form_with summands constant)
 
--- ---- the form of a term over these constants, from inside out, the left operand first
-abbrev pub form_step : List (List ℕ) → Term-F (Refusable Form) → Refusable Form
-form_step names (Term-F.Number q) = Ok (number_form q)
-form_step names Term-F.Null = Err Other
-form_step names (Term-F.Name name) = named_form (number names name)
-form_step names (Term-F.Apply func args) = Err Other
-form_step names (Term-F.Add a b) = a >>= λ f. b >>= λ g. plus_form f g
-form_step names (Term-F.Sub a b) = a >>= λ f. b >>= λ g. minus_form f g
-form_step names (Term-F.Neg a) = a >>= λ f. Ok (neg_form f)
-form_step names (Term-F.Scale q a) = a >>= λ f. times_form q f
+-- ---- terms
+-- a linear term: each word in it is one of these, and nothing in it is null or an application
+abbrev pub linear_step : List Word → Term-F Bool → Bool
+linear_step words (Term-F.Number q) = true
+linear_step words Term-F.Null = false
+linear_step words (Term-F.Name word) = is_some (number words word)
+linear_step words (Term-F.Apply func args) = false
+linear_step words (Term-F.Add a b) = a && b
+linear_step words (Term-F.Sub a b) = a && b
+linear_step words (Term-F.Neg a) = a
+linear_step words (Term-F.Scale q a) = a
 
-abbrev pub lin_of : List (List ℕ) → Term → Refusable Form
-lin_of names = fold-Term (Refusable Form) (form_step names)
+abbrev pub is_linear : List Word → Term → Bool
+is_linear words = fold-Term Bool (linear_step words)
+
+-- the form of a term over these words, from inside out, the left operand first
+abbrev pub form_step : List Word → Term-F (Refusable Form) → Refusable Form
+form_step words (Term-F.Number q) = Ok (number_form q)
+form_step words Term-F.Null = Ok zero_form
+form_step words (Term-F.Name word) = Ok (named_form (number words word))
+form_step words (Term-F.Apply func args) = Ok zero_form
+form_step words (Term-F.Add a b) = a >>= λ f. b >>= λ g. plus_form f g
+form_step words (Term-F.Sub a b) = a >>= λ f. b >>= λ g. minus_form f g
+form_step words (Term-F.Neg a) = a >>= λ f. Ok (neg_form f)
+form_step words (Term-F.Scale q a) = a >>= λ f. times_form q f
+
+abbrev pub lin_of : List Word → Term → Refusable Form
+lin_of words = fold-Term (Refusable Form) (form_step words)

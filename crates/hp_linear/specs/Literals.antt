@@ -9,8 +9,9 @@ use Rattle.hp_base.specs.declared.literal.Lit.{Lit}
 use Rattle.hp_base.specs.declared.literal.Lit.TheVariants.{Num}
 use Rattle.hp_linear.specs.declared.form.Form.{Form}
 use Rattle.hp_linear.specs.declared.wholes.Row.{Row}
-use Rattle.hp_norm.specs.declared.atoms.Side.{Side}
-use Rattle.hp_norm.specs.Literals.{taken}
+use Rattle.hp_base.specs.Words.{Word}
+use Rattle.hp_model.specs.declared.sides.Side.{Side}
+use Rattle.hp_model.specs.Sides.{taken}
 use Rattle.hp_linear.specs.Steps.{Refusable, ◌>>=◌}
 use Rattle.hp_linear.specs.Forms.{lin_of, minus_form}
 use Rattle.hp_linear.specs.Wholes.{row_of}
@@ -38,9 +39,9 @@ literals Ne left right = apart_literals left right
 literals Ge left right = one_literal rel.Le right left
 literals Gt left right = one_literal rel.Lt right left
 
--- the literals of an atom over these constants
-abbrev pub num_literals : List (List ℕ) → Side → Atom → Refusable (List Lit)
-num_literals names side atom =
-    lin_of names atom.left >>= λ left.
-    lin_of names atom.right >>= λ right.
+-- the literals of an atom over these words
+abbrev pub num_literals : List Word → Side → Atom → Refusable (List Lit)
+num_literals words side atom =
+    lin_of words atom.left >>= λ left.
+    lin_of words atom.right >>= λ right.
     literals (taken side atom.cmp) left right

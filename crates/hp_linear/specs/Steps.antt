@@ -1,8 +1,8 @@
 -- Computations that may be refused, step by step, and the greatest common divisor.
 use Rattle.std.specs.Prelude.{ℕ, zero, suc, ◌%◌, ◌==◌, List, ◌++◌, Result, Ok, Err, if◌then◌else◌}
 use Rattle.hp_num.specs.declared.wide.Wide.{Wide as TooWide}
-use Rattle.hp_linear.specs.declared.form.Refusal.{Refusal}
-use Rattle.hp_linear.specs.declared.form.Refusal.TheVariants.{Wide}
+use Rattle.hp_base.specs.declared.refusal.Refusal.{Refusal}
+use Rattle.hp_base.specs.declared.refusal.Refusal.TheVariants.{Wide}
 
 -- a computation that gives a value, or is refused
 abbrev pub Refusable : Type 0 → Type 0

@@ -7,7 +7,7 @@ use Rattle.hp_base.specs.declared.literal.Name.{Name}
 use Rattle.hp_base.specs.declared.literal.Part.{Part}
 use Rattle.hp_linear.specs.declared.form.Summand.{Summand}
 use Rattle.hp_linear.specs.declared.form.Form.{Form}
-use Rattle.hp_linear.specs.declared.form.Refusal.TheVariants.{Wide}
+use Rattle.hp_base.specs.declared.refusal.Refusal.TheVariants.{Wide}
 use Rattle.hp_linear.specs.declared.wholes.Row.{Row}
 use Rattle.hp_linear.specs.Steps.{Refusable, ◌>>=◌, behind, unless_wide, gcd}
 

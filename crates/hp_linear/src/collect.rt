@@ -1,17 +1,17 @@
 //! The linear form of a term, from inside out, the left operand first.
 
 ghost use Rattle.std.specs.Prelude.{◌≡◌, ◌≤◌, length};
-ghost use Rattle.hp_norm.specs.Numbered.{number};
+ghost use Rattle.hp_base.specs.Words.{number};
 ghost use Rattle.hp_linear.specs.Forms.{lin_of};
 ghost use Rattle.hp_linear.specs.Answers.{Answers};
 
-use crate::form::{Form, Refusal, minus, named, negated, number, plus, times};
+use crate::form::{Form, minus, named, negated, number, plus, times, zero};
 use hp_ast::Term;
-use hp_base::Name;
-use hp_norm::NameIndex;
+use hp_base::{Name, Refusal};
+use hp_names::NameIndex;
 use std::alloc::Global;
 
-/// The place of a constant in the order of names.
+/// The name that a word stands for, by its place among the words.
 fn place(index: &NameIndex, name: &[u8]) -> Option<Name>
     requires { length index.now ≤ 4000 }
     ensures { result ≡ number index.now name.now }
@@ -22,14 +22,14 @@ fn place(index: &NameIndex, name: &[u8]) -> Option<Name>
     }
 }
 
-/// The form of a num term over these constants. A term with null, an application or another name is no such term.
+/// The form of a term of sort num over these words. Null, an application and any other word count as 0.
 pub fn collect(alloc: Global, index: &NameIndex, term: &Term) -> Result<Form, Refusal>
     requires { length index.now ≤ 4000 }
     ensures { Answers (lin_of index.now term.now) result }
 {
     match term {
         Term::Number(n) => Ok(number(alloc, *n)),
-        Term::Null | Term::Apply { .. } => Err(Refusal::Other),
+        Term::Null | Term::Apply { .. } => Ok(zero(alloc)),
         Term::Name(name) => named(alloc, place(index, name.as_slice())),
         Term::Add(left, right) => {
             let first = collect(alloc, index, left.get())?;

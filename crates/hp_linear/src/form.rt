@@ -1,38 +1,29 @@
-//! Linear forms over constants, and the forms of sums, negations and multiples.
+//! Linear forms over names, and the forms of sums, negations and multiples.
 //!
 //! The names of the summands rise strictly, and no coefficient is 0.
 
-ghost use Rattle.std.specs.Prelude.{◌≡◌, Ok, Err, Some, None};
-ghost use Rattle.hp_linear.specs.Forms.{minus_form, named_form, neg_form, number_form, plus_form, times_form};
+ghost use Rattle.std.specs.Prelude.{◌≡◌, Ok};
+ghost use Rattle.hp_linear.specs.Forms.{minus_form, named_form, neg_form, number_form, plus_form, times_form, zero_form};
 ghost use Rattle.hp_linear.specs.Answers.{Answers};
 
 use crate::numbers::{product, sum};
 use crate::summands::{merged, multiplied, negated as negated_summands, push};
-use hp_base::Name;
+use hp_base::{Name, Refusal};
 use hp_num::{Frac, List};
 use std::alloc::Global;
 
-/// So many copies of a constant.
+/// So many copies of a name.
 #[derive(Clone, Copy)]
 pub struct Summand {
     pub name: Name,
     pub coef: Frac,
 }
 
-/// A sum of copies of constants and a number.
+/// A sum of copies of names and a number.
 #[derive(Drop)]
 pub struct Form {
     pub summands: List<Summand>,
     pub constant: Frac,
-}
-
-/// Why there is no form: the term is no num term over these constants; a number of the computation has a magnitude
-/// above 2^127 - 1; or memory is short.
-#[derive(Clone, Copy)]
-pub enum Refusal {
-    Other,
-    Wide,
-    Memory,
 }
 
 /// A number alone.
@@ -45,12 +36,19 @@ pub fn number(alloc: Global, number: Frac) -> Form
     }
 }
 
-/// One copy of a constant.
+/// The number 0.
+pub fn zero(alloc: Global) -> Form
+    ensures { result ≡ zero_form }
+{
+    number(alloc, Frac::new(0, 1))
+}
+
+/// One copy of a name, or 0 where there is none.
 pub fn named(alloc: Global, name: Option<Name>) -> Result<Form, Refusal>
-    ensures { Answers (named_form name) result }
+    ensures { Answers (Ok (named_form name)) result }
 {
     match name {
-        None => Err(Refusal::Other),
+        None => Ok(zero(alloc)),
         Some(name) => {
             let mut summands = List::new(alloc);
             push(&mut summands, name, Frac::new(1, 1))?;

@@ -2,13 +2,13 @@
 
 ghost use Rattle.hp_linear.specs.Laws.{DivisorsAreGreatest, LiteralsAreTrueWithAtoms, TermsHaveFormValues};
 
-/// A num term has the value of its linear form at any values of the constants.
+/// A linear term has the value of its form, in each environment that gives the words the values of their names.
 pub fn terms_have_form_values()
     ensures { TermsHaveFormValues }
 {}
 
-/// At any values of the constants, one of the literals of an atom is true exactly where the atom is true, in the head,
-/// or false, in the guard.
+/// Where the words have the values of their names, one of the literals of an atom is true exactly where the atom is true,
+/// in the head, or false, in the guard.
 pub fn literals_are_true_with_atoms()
     ensures { LiteralsAreTrueWithAtoms }
 {}

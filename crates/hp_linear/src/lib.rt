@@ -1,5 +1,5 @@
-//! The normal form of atoms over num constants, without functions and variables: terms become linear forms over
-//! fractions, and atoms become literals over fractions, with whole coefficients.
+//! The normal form of atoms of sort num: terms become linear forms over fractions, and atoms become literals over
+//! fractions, with whole coefficients.
 //! What forms and literals say is tied to the values of terms and the truth of atoms by laws.
 #![tactic(auto)]
 

@@ -4,8 +4,9 @@ ghost use Rattle.std.specs.Prelude.{◌≡◌, ◌≤◌, ◌<◌, IfOk, length}
 
 use crate::literals;
 use hp_ast::{Atom, Cmp, Term};
-use hp_base::{Lit, Part, Rel};
-use hp_norm::{NameIndex, Side, Step};
+use hp_base::{Lit, Part, Refusal, Rel};
+use hp_model::Side;
+use hp_names::NameIndex;
 use hp_num::{Frac, List, Text};
 use sqlite_items::Boxed;
 use std::alloc::{AllocError, Global};
@@ -15,7 +16,6 @@ use std::alloc::{AllocError, Global};
 enum Answer {
     Same,
     Differs,
-    Other,
     Wide,
     NoMemory,
 }
@@ -134,16 +134,15 @@ fn answered(alloc: Global, side: Side, atom: &Atom, want: &[Wanted]) -> Result<A
     let index = index(alloc)?;
     let mut lits = List::new(alloc);
     Ok(match literals(alloc, &index, side, atom, &mut lits) {
-        Step::Done => {
+        Ok(()) => {
             if are_wanted(lits.as_slice(), want) {
                 Answer::Same
             } else {
                 Answer::Differs
             }
         }
-        Step::Other => Answer::Other,
-        Step::Wide => Answer::Wide,
-        Step::Memory => Answer::NoMemory,
+        Err(Refusal::Wide) => Answer::Wide,
+        Err(Refusal::Memory) => Answer::NoMemory,
     })
 }
 
@@ -286,33 +285,4 @@ fn wide_numbers(rt: HostRuntime) {
     let half = Frac::new(1 << 126, 1);
     assert_eq!(rt; nested_seen(rt.alloc(), two, below), Ok(Answer::Same));
     assert_eq!(rt; nested_seen(rt.alloc(), two, half), Ok(Answer::Wide));
-}
-
-fn other_seen(alloc: Global, left: Term) -> Result<Answer, AllocError> {
-    let atom = Atom {
-        left,
-        cmp: Cmp::Eq,
-        right: name(alloc, b'C')?,
-    };
-    answered(alloc, Side::Head, &atom, &[])
-}
-
-fn others(alloc: Global) -> Result<[Answer; 3], AllocError> {
-    let applied = Term::Apply {
-        func: Text::from_slice(alloc, &[b'C'])?,
-        args: List::new(alloc),
-    };
-    Ok([
-        other_seen(alloc, Term::Null)?,
-        other_seen(alloc, name(alloc, b'E')?)?,
-        other_seen(alloc, applied)?,
-    ])
-}
-
-#[test]
-fn terms_of_other_kinds(rt: HostRuntime) {
-    assert_eq!(rt;
-        others(rt.alloc()),
-        Ok([Answer::Other, Answer::Other, Answer::Other])
-    );
 }

@@ -1,5 +1,4 @@
 pub mod Numbers
-pub mod Texts
 pub mod Shapes
 pub mod Bounds
 pub mod Sides

@@ -1,41 +1,10 @@
 -- Comparisons of fractions as bounds on their difference.
-use Rattle.std.proofs.Common.{◌≡◌, Bool, true, false, ◌&&◌, ℤ, pos, neg_ℤ, ◌+ℤ◌, ◌-ℤ◌, nat_eq, ◌≤ℤ◌, ◌<ℤ◌, refl, sym, ap, subst, ◌∙◌, arith}
+use Rattle.std.proofs.Common.{◌≡◌, true, ℤ, pos, neg_ℤ, ◌+ℤ◌, ◌-ℤ◌, ◌≤ℤ◌, ◌<ℤ◌, sym, ap, subst, ◌∙◌, arith}
 use Rattle.std.proofs.lemmas.Int.{ints}
-use Rattle.std.specs.Ordering.{int_eq}
 use Rattle.std.proofs.lemmas.Bool.{eqb-true, eq-eqb}
-use Rattle.std.proofs.lemmas.Bool.Decides.{Decides-int_eq}
-use Rattle.hp_math.specs.Rational.{ℚ, ratio, whole, ◌+ℚ◌, ◌-ℚ◌, neg_ℚ, ◌≤ℚ◌, ◌<ℚ◌, le_ℚ, lt_ℚ, eq_ℚ, is_whole}
+use Rattle.hp_math.specs.Rational.{ℚ, ratio, whole, ◌+ℚ◌, ◌-ℚ◌, neg_ℚ, ◌≤ℚ◌, ◌<ℚ◌, is_whole}
 use Rattle.hp_math.proofs.Rational.{ratio-kept, ratio-parts, ratio-neg, ratio-+, ratio-≤, ratio-<, ratio-≤_out, ratio-<_out}
-use Rattle.hp_math.proofs.Field.{by_common2, at_one, fractions, whole_at, le_ℚ-false, lt_ℚ-false, <ℚ_irrefl}
-
-pub is_true : (b : Bool) → (b ≡ false → ⊥) → b ≡ true
-is_true true h = refl
-is_true false h = absurd (h refl)
-
--- ---- the tests
-pub le_ℚ-from : (a b : ℚ) → a ≤ℚ b → le_ℚ a b ≡ true
-le_ℚ-from a b h = is_true (le_ℚ a b) (λ f. <ℚ_irrefl b a (le_ℚ-false a b f) h)
-
-pub lt_ℚ-from : (a b : ℚ) → a <ℚ b → lt_ℚ a b ≡ true
-lt_ℚ-from a b h = is_true (lt_ℚ a b) (λ f. <ℚ_irrefl a b h (lt_ℚ-false a b f))
-
-both_true : (a b : Bool) → (a && b) ≡ true → (a ≡ true) × (b ≡ true)
-both_true true b e = (refl, e)
-both_true false b e = absurd (cc)
-
-pub eq_ℚ-true : (a b : ℚ) → eq_ℚ a b ≡ true → a ≡ b
-eq_ℚ-true a b h =
-    let parts = both_true _ _ h in
-    let n : a.num ≡ b.num = (Decides-int_eq a.num b.num).0 parts.0 in
-    let d : a.den ≡ b.den = eqb-true a.den b.den parts.1 in
-    sym (ratio-parts a) ∙ (λ i. ratio (n i) (d i)) ∙ ratio-parts b
-
-pub eq_ℚ-from : (a b : ℚ) → a ≡ b → eq_ℚ a b ≡ true
-eq_ℚ-from a b e = subst (λ c. eq_ℚ a c ≡ true) e (both (int_eq a.num a.num) (nat_eq a.den a.den) ((Decides-int_eq a.num a.num).1 refl) (eq-eqb a.den a.den refl))
-  where
-    both : (x y : Bool) → x ≡ true → y ≡ true → (x && y) ≡ true
-    both true y p q = q
-    both false y p q = absurd (cc)
+use Rattle.hp_math.proofs.Field.{by_common2, at_one, fractions, whole_at}
 
 -- ---- whole numbers
 pub whole-parts : (n : ℤ) → ((whole n).num ≡ n) × ((whole n).den ≡ 1)

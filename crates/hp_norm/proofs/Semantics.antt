@@ -1,55 +1,26 @@
--- A clause is true in a structure exactly where one of its literals is true at the values of the constants.
-use Rattle.std.proofs.Common.{◌≡◌, ℕ, zero, suc, ◌<◌, true, false, cond, ℤ, pos, neg_ℤ, ◌+ℤ◌, List, [], ◌∷◌, Option, Some, None, map, length, get_or, refl, sym, ap, subst, ◌∙◌, arith}
-use Rattle.std.specs.Prelude.{position, option_map}
-use Rattle.std.specs.Str.{bytes_eq}
-use Rattle.std.proofs.lemmas.List.{length-map}
-use Rattle.std.proofs.lemmas.List.Quantifiers.{position-Some}
+-- An index term has the value of its form.
+use Rattle.std.proofs.Common.{◌≡◌, true, false, cond, ℤ, pos, neg_ℤ, ◌+ℤ◌, List, Option, Some, None, refl, sym, ap, subst, ◌∙◌}
 use Rattle.hp_math.specs.Rational.{ℚ, whole, ◌+ℚ◌, ◌-ℚ◌, neg_ℚ, is_whole}
 use Rattle.hp_math.proofs.Field.{+ℚ_zero, +ℚ_comm, +ℚ_assoc}
 use Rattle.hp_ast.specs.declared.term.Term.{Term, fold-roll-Term, ind-Term, roll-Term, map-Term}
 use Rattle.hp_ast.specs.declared.term.Term.TheOpen.{Term-F}
 use Rattle.hp_base.specs.declared.literal.Name.{Name}
 use Rattle.hp_base.specs.Truth.{Values, name_value, optional_value}
-use Rattle.hp_model.specs.declared.structure.ConstValue.{ConstValue}
-use Rattle.hp_model.specs.Value.{Functions, constant, value, value_step}
+use Rattle.hp_base.specs.Words.{Word, Agrees, number}
+use Rattle.hp_base.proofs.Words.{word_value}
+use Rattle.hp_model.specs.Value.{Names, Functions, value, value_step}
 use Rattle.hp_norm.specs.declared.collect.Form.{Form}
 use Rattle.hp_norm.specs.declared.collect.Shape.{Shape}
 use Rattle.hp_norm.specs.declared.collect.Shape.TheVariants.{Number, Sum, Other}
-use Rattle.hp_norm.specs.Numbered.{number}
-use Rattle.hp_norm.specs.Forms.{above, form_of, shape_form, shape_of, shape_step, shifted, plus_shape, minus_shape, neg_shape, number_shape, named_shape}
-use Rattle.hp_norm.specs.Values.{entry_name, entry_value}
-use Rattle.hp_norm.proofs.Texts.{apart_back, same_text, text_same}
+use Rattle.hp_norm.specs.Forms.{is_index_shape, is_index_term, form_of, shape_form, shape_of, shape_step, shifted, plus_shape, minus_shape, neg_shape, number_shape, named_shape}
+use Rattle.hp_norm.specs.Values.{form_value}
+use Rattle.hp_norm.specs.Laws.{TermsHaveFormValues}
 use Rattle.hp_norm.proofs.Numbers.{neg-whole, whole-+, whole-of}
 
--- ---- a constant by its place
-constant_at : (es : List ConstValue) (name : List ℕ) (i : ℕ) (d : List ℕ) → i < length es → bytes_eq name (get_or (map entry_name es) i d) ≡ true
-    → ((k : ℕ) → k < i → bytes_eq name (get_or (map entry_name es) k d) ≡ false) → constant es name ≡ get_or (map entry_value es) i (whole (pos 0))
-constant_at [] name i d h e before = absurd (omega arith)
-constant_at (c ∷ cs) name zero d h e before =
-    let same : c.name ≡ name = sym (same_text name c.name e) in
-    let t : bytes_eq c.name name ≡ true = subst (λ (n : List ℕ). bytes_eq n name ≡ true) (sym same) (text_same name) in
-    ap (λ b. cond b c.value (constant cs name)) t
-constant_at (c ∷ cs) name (suc i) d h e before =
-    let t : bytes_eq c.name name ≡ false = apart_back name c.name (before 0 (omega arith)) in
-    ap (λ b. cond b c.value (constant cs name)) t ∙ constant_at cs name i d (omega arith) e (λ k l. before (suc k) (omega arith))
-
-pub record IsAt (names : List (List ℕ)) (n : List ℕ) (name : Name) : Type 0 where
-  pub at : position (bytes_eq n) names ≡ Some name.0
-
-pub numbered : (names : List (List ℕ)) (n : List ℕ) (name : Name) → number names n ≡ Some name → IsAt names n name
-numbered names n name = by (position (bytes_eq n) names) refl
-  where
-    by : (p : Option ℕ) → position (bytes_eq n) names ≡ p → option_map (λ at. record { 0 = at }) p ≡ Some name → IsAt names n name
-    by None e h = absurd (cc)
-    by (Some i) e h = let s : i ≡ name.0 = ap (λ (o : Option Name). elim o [ None ↦ i | Some m ↦ m.0 ]) h in record { at = e ∙ ap Some s }
-
 module _ (v : Values) where
-  abbrev pub form_value : Form → ℚ
-  form_value form = optional_value v form.base +ℚ whole form.offset
-
   abbrev pub HasValue : Shape → ℚ → Type 0
   HasValue (Number k) x = x ≡ whole k
-  HasValue (Sum form) x = x ≡ form_value form
+  HasValue (Sum form) x = x ≡ form_value v form
   HasValue Other x = Unit {0}
 
   zero_plus : (k : ℤ) → whole k ≡ whole (pos 0) +ℚ whole k
@@ -82,56 +53,47 @@ module _ (v : Values) where
   number_value : (q : ℚ) → HasValue (number_shape q) q
   number_value q = (elim (is_whole q) as (λ b. is_whole q ≡ b → HasValue (cond b (Number q.num) Other) q) [ true ↦ λ t. whole-of q t | false ↦ λ t. tt ]) refl
 
-module _ (es : List ConstValue) (names : List (List ℕ)) (same : map entry_name es ≡ names) (f : Functions) where
-  abbrev v : Values
-  v = map entry_value es
-
-  -- a constant has the value at its place
-  constant_value : (n : List ℕ) (name : Name) → number names n ≡ Some name → constant es n ≡ name_value v name.0
-  constant_value n name h =
-      let at = numbered names n name h in
-      let found = position-Some (bytes_eq n) names name.0 [] at.at in
-      let within : name.0 < length es = omega (arith, ap length same, length-map es entry_name, found.0) in
-      constant_at es n name.0 [] within (subst (λ (ns : List (List ℕ)). bytes_eq n (get_or ns name.0 []) ≡ true) (sym same) found.1)
-      (λ k l. subst (λ (ns : List (List ℕ)). bytes_eq n (get_or ns k []) ≡ false) (sym same) (found.2 k l))
-
-  named_value : (n : List ℕ) → HasValue v (named_shape (number names n)) (constant es n)
-  named_value n = by (number names n) refl
+module _ (words : List Word) (v : Values) (env : Names) (f : Functions) (agrees : Agrees words v env) where
+  named_value : (n : Word) → HasValue v (named_shape (number words n)) (env n)
+  named_value n = by (number words n) refl
     where
-      by : (o : Option Name) → number names n ≡ o → HasValue v (named_shape o) (constant es n)
+      by : (o : Option Name) → number words n ≡ o → HasValue v (named_shape o) (env n)
       by None e = tt
-      by (Some name) e = constant_value n name e ∙ sym (+ℚ_zero (name_value v name.0))
+      by (Some name) e = word_value words v env n name agrees e ∙ sym (+ℚ_zero (name_value v name.0))
 
   -- ---- terms
   abbrev Fits : Term → Type 0
-  Fits t = HasValue v (shape_of names t) (value (constant es) f t)
+  Fits t = HasValue v (shape_of words t) (value env f t)
 
   step_value : (y : Term-F ((t : Term) × Fits t))
-      → HasValue v (shape_step names (map-Term Term Shape (shape_of names) (map-Term ((t : Term) × Fits t) Term (λ e. e.0) y)))
-      (value_step (constant es) f (map-Term Term ℚ (value (constant es) f) (map-Term ((t : Term) × Fits t) Term (λ e. e.0) y)))
+      → HasValue v (shape_step words (map-Term Term Shape (shape_of words) (map-Term ((t : Term) × Fits t) Term (λ e. e.0) y)))
+      (value_step env f (map-Term Term ℚ (value env f) (map-Term ((t : Term) × Fits t) Term (λ e. e.0) y)))
   step_value (Term-F.Number q) = number_value v q
   step_value Term-F.Null = tt
   step_value (Term-F.Name n) = named_value n
   step_value (Term-F.Apply func args) = tt
-  step_value (Term-F.Add a b) = plus_value v (shape_of names a.0) (shape_of names b.0) (value (constant es) f a.0) (value (constant es) f b.0) a.1 b.1
-  step_value (Term-F.Sub a b) = minus_value v (shape_of names a.0) (shape_of names b.0) (value (constant es) f a.0) (value (constant es) f b.0) a.1 b.1
-  step_value (Term-F.Neg a) = neg_value v (shape_of names a.0) (value (constant es) f a.0) a.1
+  step_value (Term-F.Add a b) = plus_value v (shape_of words a.0) (shape_of words b.0) (value env f a.0) (value env f b.0) a.1 b.1
+  step_value (Term-F.Sub a b) = minus_value v (shape_of words a.0) (shape_of words b.0) (value env f a.0) (value env f b.0) a.1 b.1
+  step_value (Term-F.Neg a) = neg_value v (shape_of words a.0) (value env f a.0) a.1
   step_value (Term-F.Scale q a) = tt
 
   layer_value : (y : Term-F ((t : Term) × Fits t)) → Fits (roll-Term (map-Term ((t : Term) × Fits t) Term (λ e. e.0) y))
   layer_value y =
       let z = map-Term ((t : Term) × Fits t) Term (λ e. e.0) y in
-      subst (HasValue v (shape_of names (roll-Term z))) (sym (fold-roll-Term ℚ (value_step (constant es) f) z))
-      (subst (λ s. HasValue v s (value_step (constant es) f (map-Term Term ℚ (value (constant es) f) z))) (sym (fold-roll-Term Shape (shape_step names) z)) (step_value y))
+      subst (HasValue v (shape_of words (roll-Term z))) (sym (fold-roll-Term ℚ (value_step env f) z))
+      (subst (λ s. HasValue v s (value_step env f (map-Term Term ℚ (value env f) z))) (sym (fold-roll-Term Shape (shape_step words) z)) (step_value y))
 
   shape_value : (t : Term) → Fits t
   shape_value t = ind-Term Fits (λ x y is. subst (λ z. Fits (roll-Term z)) is (layer_value y)) t
 
   -- an index term has the value of its form
-  pub term_value : (t : Term) (form : Form) → form_of names t ≡ Some form → value (constant es) f t ≡ form_value v form
-  term_value t form = by (shape_of names t) (shape_value t)
+  pub term_value : (t : Term) → is_index_term words t ≡ true → value env f t ≡ form_value v (form_of words t)
+  term_value t = by (shape_of words t) (shape_value t)
     where
-      by : (s : Shape) → HasValue v s (value (constant es) f t) → shape_form s ≡ Some form → value (constant es) f t ≡ form_value v form
-      by (Number k) h e = h ∙ zero_plus v k ∙ ap (λ (o : Option Form). elim o [ None ↦ form_value v (above None k) | Some m ↦ form_value v m ]) e
-      by (Sum g) h e = h ∙ ap (λ (o : Option Form). elim o [ None ↦ form_value v g | Some m ↦ form_value v m ]) e
+      by : (s : Shape) → HasValue v s (value env f t) → is_index_shape s ≡ true → value env f t ≡ form_value v (shape_form s)
+      by (Number k) h e = h ∙ zero_plus v k
+      by (Sum g) h e = h
       by Other h e = absurd (cc)
+
+pub terms_have_form_values : TermsHaveFormValues
+terms_have_form_values words v env f t agrees e = term_value words v env f agrees t e

@@ -1,24 +1,27 @@
 -- What a term of each kind is from what its parts are, and how large its numbers can become.
-use Rattle.std.proofs.Common.{◌≡◌, ℕ, ◌+◌, ◌≤◌, ◌^◌, true, false, cond, List, ℤ, pos, negsuc, neg_ℤ, ◌+ℤ◌, ◌-ℤ◌, unsigned_abs, Option, Some, None, sym, ap, subst, ◌∙◌, arith}
+use Rattle.std.proofs.Common.{◌≡◌, ℕ, ◌+◌, ◌≤◌, true, false, ◌&&◌, ◌||◌, cond, List, ℤ, pos, negsuc, neg_ℤ, ◌+ℤ◌, ◌-ℤ◌, unsigned_abs, Option, Some, None, sym, ap, subst, ◌∙◌, arith}
 use Rattle.std.proofs.lemmas.Int.{ints}
+use Rattle.std.proofs.lemmas.Bool.{and_parts}
 use Rattle.hp_math.specs.Rational.{ℚ, is_whole}
 use Rattle.hp_base.specs.declared.literal.Name.{Name}
+use Rattle.hp_base.specs.Words.{Word, number}
 use Rattle.hp_ast.specs.declared.term.Term.{Term, fold-roll-Term, ind-Term, roll-Term, map-Term}
+use Rattle.hp_ast.specs.declared.problem.Atom.{Atom}
 use Rattle.hp_ast.specs.declared.term.Term.TheOpen.{Term-F}
 use Rattle.hp_ast.specs.declared.term.Term.TheViews.{Add, Sub}
 use Rattle.hp_ast.specs.declared.term.Term.TheVariants.{rolls-Add, rolls-Sub}
 use Rattle.hp_norm.specs.declared.collect.Shape.{Shape}
 use Rattle.hp_norm.specs.declared.collect.Shape.TheVariants.{Number, Sum, Other}
-use Rattle.hp_norm.specs.Numbered.{number}
-use Rattle.hp_norm.specs.Forms.{IsWithin, IsSmallShape, shape_of, shape_step, weight, weight_step, shifted, plus_shape, minus_shape, neg_shape, number_shape, named_shape}
+use Rattle.hp_norm.specs.Literals.{IsIndexAtom, is_named}
+use Rattle.hp_norm.specs.Forms.{IsWithin, form_of, is_index_term, IsSmallShape, largest, shape_of, shape_step, weight, weight_step, shifted, plus_shape, minus_shape, neg_shape, number_shape, named_shape}
 
 -- ---- one layer
-module _ (names : List (List ℕ)) where
-  pub shape-Add : (a b : Term) → shape_of names (Add a b) ≡ plus_shape (shape_of names a) (shape_of names b)
-  shape-Add a b = ap (shape_of names) (sym (rolls-Add a b)) ∙ fold-roll-Term Shape (shape_step names) (Term-F.Add a b)
+module _ (words : List Word) where
+  pub shape-Add : (a b : Term) → shape_of words (Add a b) ≡ plus_shape (shape_of words a) (shape_of words b)
+  shape-Add a b = ap (shape_of words) (sym (rolls-Add a b)) ∙ fold-roll-Term Shape (shape_step words) (Term-F.Add a b)
 
-  pub shape-Sub : (a b : Term) → shape_of names (Sub a b) ≡ minus_shape (shape_of names a) (shape_of names b)
-  shape-Sub a b = ap (shape_of names) (sym (rolls-Sub a b)) ∙ fold-roll-Term Shape (shape_step names) (Term-F.Sub a b)
+  pub shape-Sub : (a b : Term) → shape_of words (Sub a b) ≡ minus_shape (shape_of words a) (shape_of words b)
+  shape-Sub a b = ap (shape_of words) (sym (rolls-Sub a b)) ∙ fold-roll-Term Shape (shape_step words) (Term-F.Sub a b)
 
 -- ---- magnitudes
 within-+ : (a b : ℕ) (x y : ℤ) → IsWithin a x → IsWithin b y → IsWithin (a + b) (x +ℤ y)
@@ -40,7 +43,7 @@ within-own : (n : ℤ) → IsWithin (unsigned_abs n) n
 within-own (pos n) = record { low = omega (arith, ints); high = omega (arith, ints) }
 within-own (negsuc n) = record { low = omega (arith, ints); high = omega (arith, ints) }
 
-within-zero : (a : ℕ) → IsWithin a (pos 0)
+pub within-zero : (a : ℕ) → IsWithin a (pos 0)
 within-zero a = record { low = omega (arith, ints); high = omega (arith, ints) }
 
 abbrev pub ShapeWithin : ℕ → Shape → Type 0
@@ -77,37 +80,44 @@ named-within : (o : Option Name) → ShapeWithin 0 (named_shape o)
 named-within None = tt
 named-within (Some name) = within-zero 0
 
-module _ (names : List (List ℕ)) where
+module _ (words : List Word) where
   abbrev IsHeavy : Term → Type 0
-  IsHeavy t = ShapeWithin (weight t) (shape_of names t)
+  IsHeavy t = ShapeWithin (weight t) (shape_of words t)
 
   step-within : (y : Term-F ((t : Term) × IsHeavy t))
       → ShapeWithin (weight_step (map-Term Term ℕ weight (map-Term ((t : Term) × IsHeavy t) Term (λ e. e.0) y)))
-      (shape_step names (map-Term Term Shape (shape_of names) (map-Term ((t : Term) × IsHeavy t) Term (λ e. e.0) y)))
+      (shape_step words (map-Term Term Shape (shape_of words) (map-Term ((t : Term) × IsHeavy t) Term (λ e. e.0) y)))
   step-within (Term-F.Number q) = number-within q
   step-within Term-F.Null = tt
-  step-within (Term-F.Name n) = named-within (number names n)
+  step-within (Term-F.Name n) = named-within (number words n)
   step-within (Term-F.Apply func args) = tt
-  step-within (Term-F.Add a b) = plus-within (weight a.0) (weight b.0) (shape_of names a.0) (shape_of names b.0) a.1 b.1
-  step-within (Term-F.Sub a b) = minus-within (weight a.0) (weight b.0) (shape_of names a.0) (shape_of names b.0) a.1 b.1
-  step-within (Term-F.Neg a) = neg-within (weight a.0) (shape_of names a.0) a.1
+  step-within (Term-F.Add a b) = plus-within (weight a.0) (weight b.0) (shape_of words a.0) (shape_of words b.0) a.1 b.1
+  step-within (Term-F.Sub a b) = minus-within (weight a.0) (weight b.0) (shape_of words a.0) (shape_of words b.0) a.1 b.1
+  step-within (Term-F.Neg a) = neg-within (weight a.0) (shape_of words a.0) a.1
   step-within (Term-F.Scale q a) = tt
 
   layer-within : (y : Term-F ((t : Term) × IsHeavy t)) → IsHeavy (roll-Term (map-Term ((t : Term) × IsHeavy t) Term (λ e. e.0) y))
   layer-within y =
       let z = map-Term ((t : Term) × IsHeavy t) Term (λ e. e.0) y in
-      subst (λ w. ShapeWithin w (shape_of names (roll-Term z))) (sym (fold-roll-Term ℕ weight_step z))
-      (subst (ShapeWithin (weight_step (map-Term Term ℕ weight z))) (sym (fold-roll-Term Shape (shape_step names) z)) (step-within y))
+      subst (λ w. ShapeWithin w (shape_of words (roll-Term z))) (sym (fold-roll-Term ℕ weight_step z))
+      (subst (ShapeWithin (weight_step (map-Term Term ℕ weight z))) (sym (fold-roll-Term Shape (shape_step words) z)) (step-within y))
 
   -- the number of an index term is at most its weight
-  pub term-within : (t : Term) → ShapeWithin (weight t) (shape_of names t)
+  pub term-within : (t : Term) → ShapeWithin (weight t) (shape_of words t)
   term-within t = ind-Term IsHeavy (λ x y is. subst (λ z. IsHeavy (roll-Term z)) is (layer-within y)) t
 
-small-shape : (w : ℕ) (s : Shape) → w ≤ 10 ^ 25 → ShapeWithin w s → IsSmallShape s
-small-shape w (Number k) m p = within-more w (10 ^ 25) k m p
-small-shape w (Sum f) m p = within-more w (10 ^ 25) f.offset m p
+small-shape : (w : ℕ) (s : Shape) → w ≤ largest → ShapeWithin w s → IsSmallShape s
+small-shape w (Number k) m p = within-more w largest k m p
+small-shape w (Sum f) m p = within-more w largest f.offset m p
 small-shape w Other m p = tt
 
 -- a term whose number is too large is heavy
-pub too_heavy : (names : List (List ℕ)) (t : Term) (s : Shape) → shape_of names t ≡ s → (IsSmallShape s → ⊥) → weight t ≤ 10 ^ 25 → ⊥
-too_heavy names t s e h m = h (subst IsSmallShape e (small-shape (weight t) (shape_of names t) m (term-within names t)))
+pub too_heavy : (words : List Word) (t : Term) (s : Shape) → shape_of words t ≡ s → (IsSmallShape s → ⊥) → weight t ≤ largest → ⊥
+too_heavy words t s e h m = h (subst IsSmallShape e (small-shape (weight t) (shape_of words t) m (term-within words t)))
+
+-- ---- atoms
+-- both sides of an atom that has the form of one of sort idx are index terms
+pub index_sides : (words : List Word) (atom : Atom) → IsIndexAtom words atom → (is_index_term words atom.left ≡ true) × (is_index_term words atom.right ≡ true)
+index_sides words atom is =
+    let both = and_parts (is_index_term words atom.left && is_index_term words atom.right) (is_named (form_of words atom.left).base || is_named (form_of words atom.right).base) is in
+    and_parts (is_index_term words atom.left) (is_index_term words atom.right) both.0

@@ -1,58 +1,46 @@
 -- Literals of an atom that are added one by one.
-use Rattle.std.proofs.Common.{◌≡◌, ◌≤◌, ℕ, ◌^◌, List, [], ◌∷◌, ◌++◌, ◌||◌, true, Option, Some, None, sym, ap, subst, ◌∙◌, append_assoc, MatchOption}
+use Rattle.std.proofs.Common.{◌≡◌, ◌≤◌, List, [], ◌∷◌, ◌++◌, Option, Some, None, Result, Ok, Err, sym, ap, subst, ◌∙◌, append_assoc, MatchOption}
 use Rattle.std.proofs.lemmas.List.Elements.{All-cons, All-head, All-tail}
 use Rattle.hp_base.specs.declared.literal.Lit.{Lit}
+use Rattle.hp_base.specs.declared.refusal.Refusal.{Refusal}
+use Rattle.hp_base.specs.declared.refusal.Refusal.TheVariants.{Wide, Memory}
+use Rattle.hp_base.specs.Words.{Word}
+use Rattle.hp_base.proofs.Growing.{begins_more, begins_then}
 use Rattle.hp_ast.specs.declared.term.Term.{Term}
 use Rattle.hp_ast.specs.declared.problem.Atom.{Atom}
 use Rattle.hp_ast.specs.declared.problem.Cmp.{Cmp}
+use Rattle.hp_model.specs.declared.sides.Side.{Side}
+use Rattle.hp_model.specs.Sides.{taken}
 use Rattle.hp_norm.specs.declared.collect.Form.{Form}
 use Rattle.hp_norm.specs.declared.collect.Shape.{Shape}
-use Rattle.hp_norm.specs.declared.atoms.Side.{Side}
-use Rattle.hp_norm.specs.declared.atoms.Step.{Step}
-use Rattle.hp_norm.specs.declared.atoms.Step.TheVariants.{Done, Other, Wide, Memory}
-use Rattle.hp_norm.specs.Forms.{IsSmallShape, form_of, shape_form, shape_of, weight}
-use Rattle.hp_norm.specs.Literals.{HasSmallBound, is_named, literals, taken}
-use Rattle.hp_norm.specs.Answers.{AtomPushed, Pushed, SidesPushed}
+use Rattle.hp_norm.specs.Forms.{IsSmallShape, form_of, largest, shape_of, weight}
+use Rattle.hp_norm.specs.Literals.{HasSmallBound, literals}
+use Rattle.hp_norm.specs.Answers.{AtomPushed, Pushed}
 use Rattle.hp_norm.proofs.Shapes.{too_heavy}
 use Rattle.hp_norm.proofs.Bounds.{light_atom}
 
 -- ---- terms
 -- what a part of the calls found is what the term is
-pub shape_found : (names : List (List ℕ)) (t : Term) (s : Shape) (r : Option Shape) → shape_of names t ≡ s
+pub shape_found : (words : List Word) (t : Term) (s : Shape) (r : Option Shape) → shape_of words t ≡ s
     → MatchOption r (IsSmallShape s → ⊥) (λ x. (x ≡ s) × IsSmallShape s)
-    → MatchOption r (weight t ≤ 10 ^ 25 → ⊥) (λ x. (x ≡ shape_of names t) × IsSmallShape (shape_of names t))
-shape_found names t s None e m = too_heavy names t s e m
-shape_found names t s (Some x) e m = (m.0 ∙ sym e, subst IsSmallShape (sym e) m.1)
+    → MatchOption r (weight t ≤ largest → ⊥) (λ x. (x ≡ shape_of words t) × IsSmallShape (shape_of words t))
+shape_found words t s None e m = too_heavy words t s e m
+shape_found words t s (Some x) e m = (m.0 ∙ sym e, subst IsSmallShape (sym e) m.1)
 
 -- ---- literals of one atom
-pub two_pushed : (a b : Lit) (old mid new : List Lit) (step : Step) → Pushed (a ∷ []) old mid Done → Pushed (b ∷ []) mid new step → Pushed (a ∷ b ∷ []) old new step
-two_pushed a b old mid new Done p q =
+pub two_pushed : (a b : Lit) (old mid new : List Lit) (done : Unit {0}) (result : Result (Unit {0}) Refusal) → Pushed (a ∷ []) old mid (Ok done) → Pushed (b ∷ []) mid new result → Pushed (a ∷ b ∷ []) old new result
+two_pushed a b old mid new first (Ok done) p q =
     (q.0 ∙ ap (λ (xs : List Lit). xs ++ b ∷ []) p.0 ∙ append_assoc old (a ∷ []) (b ∷ []), All-cons HasSmallBound a (b ∷ []) (All-head HasSmallBound a [] p.1) q.1)
-two_pushed a b old mid new Other p q = q
-two_pushed a b old mid new Wide p q = λ all. q (All-tail HasSmallBound a (b ∷ []) all)
-two_pushed a b old mid new Memory p q = tt
-
-pub sides_pushed : (cmp : Cmp) (o p : Option Form) (l m : Form) (old new : List Lit) (step : Step) → o ≡ Some l → p ≡ Some m → (is_named l.base || is_named m.base) ≡ true
-    → Pushed (literals cmp l m) old new step → SidesPushed cmp o p old new step
-sides_pushed cmp o p l m old new step e g is h =
-    subst (λ (x : Option Form). SidesPushed cmp x p old new step) (sym e) (subst (λ (y : Option Form). SidesPushed cmp (Some l) y old new step) (sym g) (by step h))
-  where
-    by : (step : Step) → Pushed (literals cmp l m) old new step → SidesPushed cmp (Some l) (Some m) old new step
-    by Done h = (h.0, h.1, is)
-    by Other h = absurd h
-    by Wide h = h
-    by Memory h = tt
+two_pushed a b old mid new done (Err Wide) p q = (λ all. q.0 (All-tail HasSmallBound a (b ∷ []) all), begins_then old mid new (begins_more old (a ∷ []) mid p.0) q.1)
+two_pushed a b old mid new done (Err Memory) p q = begins_then old mid new (begins_more old (a ∷ []) mid p.0) q
 
 -- what was found for the two sides is what the atom asks for
-pub atom_pushed : (names : List (List ℕ)) (side : Side) (atom : Atom) (cmp : Cmp) (l r : Shape) (old new : List Lit) (step : Step)
-    → l ≡ shape_of names atom.left → r ≡ shape_of names atom.right → cmp ≡ taken side atom.cmp → SidesPushed cmp (shape_form l) (shape_form r) old new step
-    → AtomPushed names side atom old new step
-atom_pushed names side atom cmp l r old new step e g k h = by step (subst (λ (s : Shape). SidesPushed (taken side atom.cmp) (shape_form s) (form_of names atom.right) old new step) e
-    (subst (λ (s : Shape). SidesPushed (taken side atom.cmp) (shape_form l) (shape_form s) old new step) g
-    (subst (λ (c : Cmp). SidesPushed c (shape_form l) (shape_form r) old new step) k h)))
+pub atom_pushed : (words : List Word) (side : Side) (atom : Atom) (cmp : Cmp) (l m : Form) (old new : List Lit) (result : Result (Unit {0}) Refusal)
+    → l ≡ form_of words atom.left → m ≡ form_of words atom.right → cmp ≡ taken side atom.cmp → Pushed (literals cmp l m) old new result
+    → AtomPushed words side atom old new result
+atom_pushed words side atom cmp l m old new result e g k h = by result (subst (λ (xs : List Lit). Pushed xs old new result) (λ i. literals (k i) (e i) (g i)) h)
   where
-    by : (step : Step) → SidesPushed (taken side atom.cmp) (form_of names atom.left) (form_of names atom.right) old new step → AtomPushed names side atom old new step
-    by Done h = h
-    by Other h = h
-    by Wide h = λ light. h (light_atom names side atom light)
-    by Memory h = tt
+    by : (result : Result (Unit {0}) Refusal) → Pushed (literals (taken side atom.cmp) (form_of words atom.left) (form_of words atom.right)) old new result → AtomPushed words side atom old new result
+    by (Ok done) h = h
+    by (Err Wide) h = (λ light. h.0 (light_atom words side atom light), h.1)
+    by (Err Memory) h = h

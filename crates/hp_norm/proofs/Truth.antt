@@ -1,77 +1,24 @@
--- An atom over index terms is true at the values of the constants exactly where one of its literals is.
-use Rattle.std.proofs.Common.{◌≡◌, ◌↔◌, Bool, true, false, not, cond, pos, map, Option, Some, None, refl, sym, ap, subst, ◌∙◌, inl, inr, ◌⊎◌}
+-- An atom over index terms is true in an environment exactly where one of its literals is true at the values of the names.
+use Rattle.std.proofs.Common.{◌≡◌, ◌↔◌, ◌⊎◌, Bool, true, false, cond, pos, Option, Some, None, refl, sym, ap, subst, ◌∙◌, inl, inr}
 use Rattle.std.proofs.lemmas.Bool.{eqb-true}
-use Rattle.hp_math.specs.Rational.{ℚ, whole, ◌-ℚ◌, ◌≤ℚ◌, ◌<ℚ◌, is_whole, le_ℚ, lt_ℚ, eq_ℚ}
-use Rattle.hp_math.proofs.Field.{+ℚ-neg_ℚ, ≤ℚ_refl, ≤ℚ_antisym, <ℚ_irrefl, le_ℚ-true, le_ℚ-false, lt_ℚ-true, lt_ℚ-false}
+use Rattle.hp_math.specs.Rational.{ℚ, whole, ◌-ℚ◌, ◌≤ℚ◌, ◌<ℚ◌, is_whole, eq_ℚ}
+use Rattle.hp_math.proofs.Field.{+ℚ-neg_ℚ, ≤ℚ_refl, le_ℚ-true, lt_ℚ-true}
 use Rattle.hp_ast.specs.declared.problem.Cmp.{Cmp}
 use Rattle.hp_ast.specs.declared.problem.Cmp.TheVariants.{Le, Lt, Eq, Ne, Ge, Gt}
 use Rattle.hp_base.specs.declared.literal.Name.{Name}
 use Rattle.hp_base.specs.declared.literal.Rel.{Rel}
 use Rattle.hp_base.specs.declared.literal.Rel.TheVariants as rel
 use Rattle.hp_base.specs.Truth.{Values, name_value, optional_value, Compares, IdxIsTrue, LineIsTrue}
-use Rattle.hp_model.specs.Value.{compares, constant, value}
-use Rattle.hp_norm.specs.declared.atoms.Side.{Side}
-use Rattle.hp_norm.specs.declared.atoms.Side.TheVariants.{Guard, Head}
+use Rattle.hp_model.specs.Sides.{asked, taken}
+use Rattle.hp_model.specs.Value.{compares}
+use Rattle.hp_model.proofs.Compares.{le_ℚ-from, lt_ℚ-from, eq_ℚ-from, eq_ℚ-true, less_differs, more_differs, not_true, one_less, taken_asks}
 use Rattle.hp_norm.specs.declared.collect.Form.{Form}
 use Rattle.hp_norm.specs.Forms.{form_of}
-use Rattle.hp_norm.specs.Literals.{are_index_sides, atom_literals, cancel, compared, literals, negated, sides_literals, taken}
-use Rattle.hp_norm.specs.Values.{asked, entry_name, entry_value}
-use Rattle.hp_norm.specs.Laws.{IsWholeSide, LiteralsAreTrueWithAtoms}
-use Rattle.hp_norm.proofs.Numbers.{le_ℚ-from, lt_ℚ-from, eq_ℚ-from, eq_ℚ-true}
+use Rattle.hp_norm.specs.Literals.{atom_literals, cancel, compared, literals}
+use Rattle.hp_norm.specs.Values.{form_value}
+use Rattle.hp_norm.specs.Laws.{LiteralsAreTrueWithAtoms}
 use Rattle.hp_norm.proofs.Sides.{le-bound, bound-le, lt-bound, bound-lt, eq-bound, bound-eq}
-use Rattle.hp_norm.proofs.Semantics.{form_value, term_value}
-use Rattle.hp_norm.proofs.Texts.{is_false, not_both}
-
--- ---- negated relations
-is_not : (x y : Bool) → (y ≡ true → x ≡ false) → (y ≡ false → x ≡ true) → x ≡ not y
-is_not x true h g = h refl
-is_not x false h g = g refl
-
-not_not : (x : Bool) → x ≡ not (not x)
-not_not true = refl
-not_not false = refl
-
-not_le : (a b : ℚ) → lt_ℚ b a ≡ not (le_ℚ a b)
-not_le a b = is_not (lt_ℚ b a) (le_ℚ a b)
-    (λ t. is_false (lt_ℚ b a) (λ s. <ℚ_irrefl b a (lt_ℚ-true b a s) (le_ℚ-true a b t)))
-    (λ t. lt_ℚ-from b a (le_ℚ-false a b t))
-
-not_lt : (a b : ℚ) → le_ℚ b a ≡ not (lt_ℚ a b)
-not_lt a b = is_not (le_ℚ b a) (lt_ℚ a b)
-    (λ t. is_false (le_ℚ b a) (λ s. <ℚ_irrefl a b (lt_ℚ-true a b t) (le_ℚ-true b a s)))
-    (λ t. le_ℚ-from b a (lt_ℚ-false a b t))
-
-pub compares-negated : (cmp : Cmp) (a b : ℚ) → compares (negated cmp) a b ≡ not (compares cmp a b)
-compares-negated Le a b = not_le a b
-compares-negated Lt a b = not_lt a b
-compares-negated Eq a b = refl
-compares-negated Ne a b = not_not (eq_ℚ a b)
-compares-negated Ge a b = not_le b a
-compares-negated Gt a b = not_lt b a
-
--- ---- numbers that differ
-pub not_true : (x : Bool) → not x ≡ true → x ≡ false
-not_true true e = absurd (cc)
-not_true false e = refl
-
-pub one_less : (a b : ℚ) → eq_ℚ a b ≡ false → (a <ℚ b) ⊎ (b <ℚ a)
-one_less a b e = by (lt_ℚ a b) (lt_ℚ b a) refl refl
-  where
-    by : (x y : Bool) → lt_ℚ a b ≡ x → lt_ℚ b a ≡ y → (a <ℚ b) ⊎ (b <ℚ a)
-    by true y s t = inl (lt_ℚ-true a b s)
-    by false true s t = inr (lt_ℚ-true b a t)
-    by false false s t = absurd (not_both (eq_ℚ a b) e (eq_ℚ-from a b (≤ℚ_antisym a b (lt_ℚ-false b a t) (lt_ℚ-false a b s))))
-
-pub less_differs : (a b : ℚ) → a <ℚ b → not (eq_ℚ a b) ≡ true
-less_differs a b h = ap not (is_false (eq_ℚ a b) (λ t. <ℚ_irrefl a b h (subst (λ x. b ≤ℚ x) (sym (eq_ℚ-true a b t)) (≤ℚ_refl b))))
-
-pub more_differs : (a b : ℚ) → b <ℚ a → not (eq_ℚ a b) ≡ true
-more_differs a b h = ap not (is_false (eq_ℚ a b) (λ t. <ℚ_irrefl b a h (subst (λ x. x ≤ℚ b) (sym (eq_ℚ-true a b t)) (≤ℚ_refl b))))
-
--- what a side asks of an atom
-pub taken_asks : (side : Side) (cmp : Cmp) (a b : ℚ) → compares (taken side cmp) a b ≡ asked side (compares cmp a b)
-taken_asks Guard cmp a b = compares-negated cmp a b
-taken_asks Head cmp a b = refl
+use Rattle.hp_norm.proofs.Semantics.{term_value}
 
 module _ (v : Values) where
   meet : (left right : Option Name) → cancel left right ≡ true → optional_value v left ≡ optional_value v right
@@ -140,22 +87,12 @@ module _ (v : Values) where
   literals_say Gt l m p q (inl h) = lt_ℚ-from _ _ (literal_says rel.Lt m l q p h)
   literals_say Gt l m p q (inr h) = absurd h
 
-  -- the literals of two forms say how they compare
-  forms_say : (cmp : Cmp) (o p : Option Form) (x y : ℚ) → are_index_sides o p ≡ true → IsWholeSide v o → IsWholeSide v p
-      → ((l : Form) → o ≡ Some l → x ≡ form_value v l) → ((m : Form) → p ≡ Some m → y ≡ form_value v m)
-      → LineIsTrue v (sides_literals cmp o p) ↔ (compares cmp x y ≡ true)
-  forms_say cmp None p x y is u w f g = absurd (cc)
-  forms_say cmp (Some l) None x y is u w f g = absurd (cc)
-  forms_say cmp (Some l) (Some m) x y is u w f g =
-      let same : compares cmp x y ≡ compares cmp (form_value v l) (form_value v m) = (λ i. compares cmp (f l refl i) (g m refl i)) in
-      (λ h. same ∙ literals_say cmp l m u w h, λ h. literals_true cmp l m u w (sym same ∙ h))
-
 pub literals_are_true_with_atoms : LiteralsAreTrueWithAtoms
-literals_are_true_with_atoms es functions side atom is left right =
-    let names = map entry_name es in
-    let v = map entry_value es in
-    let x = value (constant es) functions atom.left in
-    let y = value (constant es) functions atom.right in
-    subst (λ (b : Bool). LineIsTrue v (atom_literals names side atom) ↔ (b ≡ true)) (taken_asks side atom.cmp x y)
-    (forms_say v (taken side atom.cmp) (form_of names atom.left) (form_of names atom.right) x y is left right
-    (term_value es names refl functions atom.left) (term_value es names refl functions atom.right))
+literals_are_true_with_atoms words v env functions side atom agrees left right =
+    let l = form_of words atom.left in
+    let m = form_of words atom.right in
+    let x = term_value words v env functions agrees atom.left left.index in
+    let y = term_value words v env functions agrees atom.right right.index in
+    let truth = taken_asks side atom.cmp (form_value v l) (form_value v m) ∙ (λ i. asked side (compares atom.cmp (sym x i) (sym y i))) in
+    subst (λ (b : Bool). LineIsTrue v (atom_literals words side atom) ↔ (b ≡ true)) truth
+    (literals_say v (taken side atom.cmp) l m left.whole right.whole, literals_true v (taken side atom.cmp) l m left.whole right.whole)

@@ -1,15 +1,15 @@
--- Index terms over named constants, and the constant plus a whole number that each of them is.
-use Rattle.std.specs.Prelude.{ℕ, ◌+◌, ◌^◌, if◌then◌else◌, List, ℤ, pos, neg_ℤ, ◌+ℤ◌, ◌≤ℤ◌, Option, Some, None, unsigned_abs}
+-- Index terms over words, and the word plus a whole number that each of them is.
+use Rattle.std.specs.Prelude.{ℕ, ◌+◌, ◌^◌, if◌then◌else◌, Bool, true, false, List, ℤ, pos, neg_ℤ, ◌+ℤ◌, ◌≤ℤ◌, Option, Some, None, unsigned_abs}
 use Rattle.hp_math.specs.Rational.{ℚ, is_whole}
 use Rattle.hp_base.specs.declared.literal.Name.{Name}
+use Rattle.hp_base.specs.Words.{Word, number}
 use Rattle.hp_ast.specs.declared.term.Term.{Term, fold-Term}
 use Rattle.hp_ast.specs.declared.term.Term.TheOpen.{Term-F}
 use Rattle.hp_norm.specs.declared.collect.Form.{Form}
 use Rattle.hp_norm.specs.declared.collect.Shape.{Shape}
 use Rattle.hp_norm.specs.declared.collect.Shape.TheVariants.{Number, Sum, Other}
-use Rattle.hp_norm.specs.Numbered.{number}
 
--- a constant, or nothing, plus a whole number
+-- a name, or nothing, plus a whole number
 abbrev pub above : Option Name → ℤ → Form
 above base offset = record { base = base; offset = offset }
 
@@ -18,7 +18,7 @@ above base offset = record { base = base; offset = offset }
 abbrev pub number_shape : ℚ → Shape
 number_shape q = if is_whole q then Number q.num else Other
 
--- a name that is none of the constants is of another sort
+-- a word that is none of these is no index term
 abbrev pub named_shape : Option Name → Shape
 named_shape None = Other
 named_shape (Some name) = Sum (above (Some name) (pos 0))
@@ -52,27 +52,36 @@ neg_shape (Number k) = Sum (above None (neg_ℤ k))
 neg_shape (Sum form) = Other
 neg_shape Other = Other
 
-abbrev pub shape_step : List (List ℕ) → Term-F Shape → Shape
-shape_step names (Term-F.Number q) = number_shape q
-shape_step names Term-F.Null = Other
-shape_step names (Term-F.Name name) = named_shape (number names name)
-shape_step names (Term-F.Apply func args) = Other
-shape_step names (Term-F.Add a b) = plus_shape a b
-shape_step names (Term-F.Sub a b) = minus_shape a b
-shape_step names (Term-F.Neg a) = neg_shape a
-shape_step names (Term-F.Scale q a) = Other
+abbrev pub shape_step : List Word → Term-F Shape → Shape
+shape_step words (Term-F.Number q) = number_shape q
+shape_step words Term-F.Null = Other
+shape_step words (Term-F.Name name) = named_shape (number words name)
+shape_step words (Term-F.Apply func args) = Other
+shape_step words (Term-F.Add a b) = plus_shape a b
+shape_step words (Term-F.Sub a b) = minus_shape a b
+shape_step words (Term-F.Neg a) = neg_shape a
+shape_step words (Term-F.Scale q a) = Other
 
-abbrev pub shape_of : List (List ℕ) → Term → Shape
-shape_of names = fold-Term Shape (shape_step names)
+abbrev pub shape_of : List Word → Term → Shape
+shape_of words = fold-Term Shape (shape_step words)
 
-abbrev pub shape_form : Shape → Option Form
-shape_form (Number k) = Some (above None k)
-shape_form (Sum form) = Some form
-shape_form Other = None
+-- a term that is no index term counts as 0
+abbrev pub shape_form : Shape → Form
+shape_form (Number k) = above None k
+shape_form (Sum form) = form
+shape_form Other = above None (pos 0)
 
--- the form of an index term over these constants, and nothing for any other term
-abbrev pub form_of : List (List ℕ) → Term → Option Form
-form_of names term = shape_form (shape_of names term)
+abbrev pub is_index_shape : Shape → Bool
+is_index_shape (Number k) = true
+is_index_shape (Sum form) = true
+is_index_shape Other = false
+
+-- the form of an index term over these words
+abbrev pub form_of : List Word → Term → Form
+form_of words term = shape_form (shape_of words term)
+
+abbrev pub is_index_term : List Word → Term → Bool
+is_index_term words term = is_index_shape (shape_of words term)
 
 -- ---- magnitudes
 -- a magnitude of at most so much
@@ -81,8 +90,11 @@ pub record IsWithin (most : ℕ) (n : ℤ) : Type 0 where
   pub high : n ≤ℤ pos most
 
 -- the largest magnitude of a number that is collected
+abbrev pub largest : ℕ
+largest = 10 ^ 25
+
 abbrev pub IsSmall : ℤ → Type 0
-IsSmall n = IsWithin (10 ^ 25) n
+IsSmall n = IsWithin largest n
 
 abbrev pub IsSmallShape : Shape → Type 0
 IsSmallShape (Number k) = IsSmall k

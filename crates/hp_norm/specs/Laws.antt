@@ -1,25 +1,30 @@
--- What ties the literals of an index atom to its truth.
-use Rattle.std.specs.Prelude.{◌≡◌, ◌↔◌, List, map, true, Option, Some, None}
+-- What ties forms to the values of terms, and literals to the truth of atoms.
+use Rattle.std.specs.Prelude.{◌≡◌, ◌↔◌, List, true}
 use Rattle.hp_math.specs.Rational.{is_whole}
+use Rattle.hp_ast.specs.declared.term.Term.{Term}
 use Rattle.hp_ast.specs.declared.problem.Atom.{Atom}
 use Rattle.hp_base.specs.Truth.{Values, LineIsTrue, optional_value}
-use Rattle.hp_model.specs.declared.structure.ConstValue.{ConstValue}
-use Rattle.hp_model.specs.Value.{Functions, constant, atom_is_true}
-use Rattle.hp_norm.specs.declared.collect.Form.{Form}
-use Rattle.hp_norm.specs.declared.atoms.Side.{Side}
-use Rattle.hp_norm.specs.Forms.{form_of}
-use Rattle.hp_norm.specs.Literals.{IsIndexAtom, atom_literals}
-use Rattle.hp_norm.specs.Values.{asked, entry_name, entry_value}
+use Rattle.hp_base.specs.Words.{Word, Agrees}
+use Rattle.hp_model.specs.declared.sides.Side.{Side}
+use Rattle.hp_model.specs.Sides.{asked}
+use Rattle.hp_model.specs.Value.{Names, Functions, atom_is_true, value}
+use Rattle.hp_norm.specs.Forms.{form_of, is_index_term}
+use Rattle.hp_norm.specs.Literals.{atom_literals}
+use Rattle.hp_norm.specs.Values.{form_value}
 
--- where the form has a name, its value is whole
-abbrev pub IsWholeSide : Values → Option Form → Type 0
-IsWholeSide v None = Unit {0}
-IsWholeSide v (Some form) = is_whole (optional_value v form.base) ≡ true
+-- an index term has the value of its form, where the words have the values of their names
+abbrev pub TermsHaveFormValues : Type 0
+TermsHaveFormValues = (words : List Word) (v : Values) (env : Names) (functions : Functions) (term : Term) → Agrees words v env
+    → is_index_term words term ≡ true → value env functions term ≡ form_value v (form_of words term)
 
--- one of the literals is true exactly where the atom is as its side asks, where the constants in it have whole values
+-- an index term over the words, whose word, where it has one, has a whole value
+pub record IsWholeTerm (words : List Word) (v : Values) (term : Term) : Type 0 where
+  pub index : is_index_term words term ≡ true
+  pub whole : is_whole (optional_value v (form_of words term).base) ≡ true
+
+-- one of the literals is true exactly where the atom is as its side asks, where the words have the values of their names
+-- and those in the atom are whole
 abbrev pub LiteralsAreTrueWithAtoms : Type 0
-LiteralsAreTrueWithAtoms = (consts : List ConstValue) (functions : Functions) (side : Side) (atom : Atom)
-    → IsIndexAtom (map entry_name consts) atom
-    → IsWholeSide (map entry_value consts) (form_of (map entry_name consts) atom.left)
-    → IsWholeSide (map entry_value consts) (form_of (map entry_name consts) atom.right)
-    → LineIsTrue (map entry_value consts) (atom_literals (map entry_name consts) side atom) ↔ (asked side (atom_is_true (constant consts) functions atom) ≡ true)
+LiteralsAreTrueWithAtoms = (words : List Word) (v : Values) (env : Names) (functions : Functions) (side : Side) (atom : Atom) → Agrees words v env
+    → IsWholeTerm words v atom.left → IsWholeTerm words v atom.right
+    → LineIsTrue v (atom_literals words side atom) ↔ (asked side (atom_is_true env functions atom) ≡ true)

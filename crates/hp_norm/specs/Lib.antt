@@ -1,4 +1,3 @@
-pub mod Numbered
 pub mod Forms
 pub mod Literals
 pub mod Values

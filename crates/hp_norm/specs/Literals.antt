@@ -1,5 +1,5 @@
--- The literals of an atom over index terms: what it says about the difference of two constants.
-use Rattle.std.specs.Prelude.{◌≡◌, ℕ, ◌+◌, ◌^◌, ◌<◌, ◌==◌, Bool, true, false, ◌||◌, if◌then◌else◌, List, [], ◌∷◌, ℤ, pos, ◌-ℤ◌, Option, Some, None}
+-- The literals of an atom over index terms: what it says about the difference of two names.
+use Rattle.std.specs.Prelude.{◌≡◌, ℕ, ◌+◌, ◌<◌, ◌==◌, Bool, true, false, ◌&&◌, ◌||◌, if◌then◌else◌, List, [], ◌∷◌, ℤ, pos, ◌-ℤ◌, Option, Some, None}
 use Rattle.std.specs.List.{All}
 use Rattle.hp_base.specs.declared.literal.Name.{Name}
 use Rattle.hp_base.specs.declared.literal.Rel.{Rel}
@@ -13,9 +13,11 @@ use Rattle.hp_ast.specs.declared.problem.Atom.{Atom}
 use Rattle.hp_ast.specs.declared.problem.Clause.{Clause}
 use Rattle.hp_ast.specs.declared.problem.Problem.{Problem}
 use Rattle.hp_norm.specs.declared.collect.Form.{Form}
-use Rattle.hp_norm.specs.declared.atoms.Side.{Side}
-use Rattle.hp_norm.specs.declared.atoms.Side.TheVariants.{Guard, Head}
-use Rattle.hp_norm.specs.Forms.{IsSmall, form_of, weight}
+use Rattle.hp_base.specs.Words.{Word}
+use Rattle.hp_model.specs.declared.sides.Side.{Side}
+use Rattle.hp_model.specs.Sides.{taken}
+use Rattle.hp_norm.specs.declared.collect.Shape.{Shape}
+use Rattle.hp_norm.specs.Forms.{IsSmall, form_of, is_index_shape, largest, shape_form, shape_of, weight}
 
 -- ---- one literal
 abbrev pub is_exact : Rel → Bool
@@ -53,44 +55,24 @@ literals Ne left right = Idx (compared rel.Lt left right) ∷ Idx (compared rel.
 literals Ge left right = Idx (compared rel.Le right left) ∷ []
 literals Gt left right = Idx (compared rel.Lt right left) ∷ []
 
--- the relation that holds where this one does not
-abbrev pub negated : Cmp → Cmp
-negated Le = Gt
-negated Lt = Ge
-negated Eq = Ne
-negated Ne = Eq
-negated Ge = Lt
-negated Gt = Le
+-- the literals of an atom that compares index terms over these words, whether or not one of them has a word
+abbrev pub atom_literals : List Word → Side → Atom → List Lit
+atom_literals words side atom = literals (taken side atom.cmp) (form_of words atom.left) (form_of words atom.right)
 
--- an atom of the guard stands for its negation
-abbrev pub taken : Side → Cmp → Cmp
-taken Guard cmp = negated cmp
-taken Head cmp = cmp
-
-abbrev pub sides_literals : Cmp → Option Form → Option Form → List Lit
-sides_literals cmp (Some left) (Some right) = literals cmp left right
-sides_literals cmp (Some left) None = []
-sides_literals cmp None right = []
-
-abbrev pub atom_literals : List (List ℕ) → Side → Atom → List Lit
-atom_literals names side atom = sides_literals (taken side atom.cmp) (form_of names atom.left) (form_of names atom.right)
-
--- ---- atoms of sort idx
+-- ---- atoms that compare index terms by their form alone
 abbrev pub is_named : Option Name → Bool
 is_named None = false
 is_named (Some name) = true
 
--- both sides are index terms, and one of them has a name: an atom over numbers alone is of another sort
-abbrev pub are_index_sides : Option Form → Option Form → Bool
-are_index_sides (Some left) (Some right) = is_named left.base || is_named right.base
-are_index_sides (Some left) None = false
-are_index_sides None right = false
+-- both are index terms, and one of them has a name
+abbrev pub are_index_sides : Shape → Shape → Bool
+are_index_sides left right = (is_index_shape left && is_index_shape right) && (is_named (shape_form left).base || is_named (shape_form right).base)
 
-abbrev pub is_index_atom : List (List ℕ) → Atom → Bool
-is_index_atom names atom = are_index_sides (form_of names atom.left) (form_of names atom.right)
+abbrev pub is_index_atom : List Word → Atom → Bool
+is_index_atom words atom = are_index_sides (shape_of words atom.left) (shape_of words atom.right)
 
-abbrev pub IsIndexAtom : List (List ℕ) → Atom → Type 0
-IsIndexAtom names atom = is_index_atom names atom ≡ true
+abbrev pub IsIndexAtom : List Word → Atom → Type 0
+IsIndexAtom words atom = is_index_atom words atom ≡ true
 
 -- ---- bounds
 abbrev pub HasSmallBound : Lit → Type 0
@@ -98,14 +80,14 @@ HasSmallBound (Num l) = ⊥
 HasSmallBound (Idx l) = IsSmall l.bound
 HasSmallBound (Ptr l) = ⊥
 
--- the numbers of both sides, added together by magnitude, stay below 10^25
+-- the numbers of both sides, added together by magnitude, stay below the largest one that is collected
 abbrev pub IsLightAtom : Atom → Type 0
-IsLightAtom atom = (weight atom.left + weight atom.right) < 10 ^ 25
+IsLightAtom atom = (weight atom.left + weight atom.right) < largest
 
 pub record IsLightClause (clause : Clause) : Type 0 where
   pub guard : All IsLightAtom clause.guard
   pub head : All IsLightAtom clause.head
 
--- no atom has numbers that come near to 10^25 together
+-- no atom has numbers that come near to that together
 abbrev pub IsLight : Problem → Type 0
 IsLight p = All IsLightClause p.clauses

@@ -1,10 +1,10 @@
-//! Index terms, collected from inside out to a constant plus a whole number.
+//! Index terms, collected from inside out to a name plus a whole number.
 //!
 //! No number that is collected passes 10^25 in magnitude, so that no sum of two of them wraps.
 
 ghost use Rattle.std.specs.Prelude.{◌≡◌, ◌<◌, ◌≤◌, ◌^◌, ◌+ℤ◌, MatchOption, length};
-ghost use Rattle.hp_norm.specs.Numbered.{number};
-ghost use Rattle.hp_norm.specs.Forms.{IsSmall, IsSmallShape, minus_shape, named_shape, neg_shape, number_shape, plus_shape, shape_form, shape_of, shifted, weight};
+ghost use Rattle.hp_base.specs.Words.{number};
+ghost use Rattle.hp_norm.specs.Forms.{IsSmall, IsSmallShape, is_index_shape, largest, minus_shape, named_shape, neg_shape, number_shape, plus_shape, shape_form, shape_of, shifted, weight};
 
 use hp_ast::Term;
 use hp_base::Name;
@@ -14,7 +14,7 @@ use hp_num::Frac;
 /// The largest magnitude of a number that is collected.
 const LARGEST: i128 = 10_000_000_000_000_000_000_000_000;
 
-/// A constant plus a whole number; without a constant, the number alone.
+/// A name plus a whole number; without a name, the number alone.
 #[derive(Clone, Copy)]
 pub struct Form {
     pub base: Option<Name>,
@@ -33,14 +33,27 @@ pub enum Shape {
 }
 
 impl Shape {
-    /// The form of an index term.
-    pub fn form(self) -> Option<Form>
+    /// The form of an index term, and 0 for any other term.
+    pub fn form(self) -> Form
         ensures { result ≡ shape_form self }
     {
         match self {
-            Shape::Number(offset) => Some(Form { base: None, offset }),
-            Shape::Sum(form) => Some(form),
-            Shape::Other => None,
+            Shape::Number(offset) => Form { base: None, offset },
+            Shape::Sum(form) => form,
+            Shape::Other => Form {
+                base: None,
+                offset: 0,
+            },
+        }
+    }
+
+    /// Whether the term is an index term.
+    pub fn is_index(self) -> bool
+        ensures { result ≡ is_index_shape self }
+    {
+        match self {
+            Shape::Number(_) | Shape::Sum(_) => true,
+            Shape::Other => false,
         }
     }
 }
@@ -141,7 +154,7 @@ fn number(n: Frac) -> Option<Shape>
     }
 }
 
-/// A name, which has to be one of the constants.
+/// The name of a word, which has to be one of these.
 fn named(index: &NameIndex, name: &[u8]) -> Shape
     requires { length index.now < 2 ^ 28 }
     ensures shape { result ≡ named_shape (number index.now name.now) }
@@ -156,11 +169,11 @@ fn named(index: &NameIndex, name: &[u8]) -> Shape
     }
 }
 
-/// What a term is among the index terms over these constants, or `None` where a number on the way passes 10^25 in
+/// What a term is among the index terms over these words, or `None` where a number on the way passes 10^25 in
 /// magnitude, which comes only where the magnitudes of its numerators, added together, do.
 pub fn collect(index: &NameIndex, term: &Term) -> Option<Shape>
     requires { length index.now < 2 ^ 28 }
-    ensures { MatchOption result (weight term.now ≤ 10 ^ 25 → ⊥) (λ shape. (shape ≡ shape_of index.now term.now) × IsSmallShape (shape_of index.now term.now)) }
+    ensures { MatchOption result (weight term.now ≤ largest → ⊥) (λ shape. (shape ≡ shape_of index.now term.now) × IsSmallShape (shape_of index.now term.now)) }
 {
     match term {
         Term::Number(n) => number(*n),

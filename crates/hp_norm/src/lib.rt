@@ -1,14 +1,13 @@
-//! The normal form of atoms over index constants: terms become a constant plus a whole number, and atoms become bounds
-//! on differences. What the literals say is tied to the truth of atoms by a law.
+//! The normal form of atoms of sort idx: terms become a name plus a whole number, and atoms become bounds on differences.
+//! What forms and literals say is tied to the values of terms and the truth of atoms by laws.
 #![tactic(auto)]
 
 mod atoms;
 mod collect;
 mod laws;
 
-pub use atoms::{Side, Step, is_index_atom, literals, negated, taken};
-pub use hp_names::NameIndex;
-pub use laws::literals_are_true_with_atoms;
+pub use atoms::{is_index_atom, literals};
+pub use laws::{literals_are_true_with_atoms, terms_have_form_values};
 
 #[cfg(test)]
 mod tests;

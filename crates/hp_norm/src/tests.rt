@@ -2,9 +2,11 @@
 
 ghost use Rattle.std.specs.Prelude.{◌≡◌, ◌<◌, ◌^◌, IfOk, length, true};
 
-use crate::{NameIndex, Side, Step, literals};
+use crate::literals;
 use hp_ast::{Atom, Cmp, Term};
-use hp_base::{IdxLit, Lit, Name};
+use hp_base::{IdxLit, Lit, Name, Refusal};
+use hp_model::Side;
+use hp_names::NameIndex;
 use hp_num::{Frac, List, Text};
 use sqlite_items::Boxed;
 use std::alloc::{AllocError, Global};
@@ -14,7 +16,6 @@ use std::alloc::{AllocError, Global};
 enum Answer {
     Same,
     Differs,
-    Other,
     Wide,
     NoMemory,
 }
@@ -110,16 +111,15 @@ fn seen(
     let atom = atom(alloc, spelled)?;
     let mut lits = List::new(alloc);
     Ok(match literals(&index, side, &atom, &mut lits) {
-        Step::Done => {
+        Ok(()) => {
             if are_rows(&lits, want) {
                 Answer::Same
             } else {
                 Answer::Differs
             }
         }
-        Step::Other => Answer::Other,
-        Step::Wide => Answer::Wide,
-        Step::Memory => Answer::NoMemory,
+        Err(Refusal::Wide) => Answer::Wide,
+        Err(Refusal::Memory) => Answer::NoMemory,
     })
 }
 
@@ -153,12 +153,6 @@ const I: Part = Part {
 
 const J: Part = Part {
     name: b'j',
-    plus: 0,
-    minus: 0,
-};
-
-const UNKNOWN: Part = Part {
-    name: b'k',
     plus: 0,
     minus: 0,
 };
@@ -220,9 +214,14 @@ fn atoms_of_the_guard(rt: HostRuntime) {
 }
 
 #[test]
-fn other_atoms(rt: HostRuntime) {
-    let cases = [relates(THREE, Cmp::Lt, THREE), relates(I, Cmp::Lt, UNKNOWN)];
-    for atom in cases {
-        assert_eq!(rt; seen(rt.alloc(), Side::Head, atom, &[]), Ok(Answer::Other));
+fn atoms_without_a_word(rt: HostRuntime) {
+    let never = [at_most(None, None, -1)];
+    let always = [at_most(None, None, 0)];
+    let cases: [(Side, &[IdxLit]); 2] = [(Side::Head, &never), (Side::Guard, &always)];
+    for (side, want) in cases {
+        assert_eq!(rt;
+            seen(rt.alloc(), side, relates(THREE, Cmp::Lt, THREE), want),
+            Ok(Answer::Same)
+        );
     }
 }

@@ -11,8 +11,8 @@ use Rattle.hp_sorts.specs.declared.forms.Forms.{Forms}
 use Rattle.hp_sorts.specs.Symbols.{variables}
 use Rattle.hp_sorts.specs.Terms.{atom_is_sorted, atom_sort, is_sorted_as}
 use Rattle.hp_norm.specs.declared.collect.Form.{Form}
-use Rattle.hp_norm.specs.Forms.{form_of}
-use Rattle.hp_norm.specs.Literals.{are_index_sides, is_index_atom, is_named}
+use Rattle.hp_norm.specs.Forms.{form_of, is_index_term}
+use Rattle.hp_norm.specs.Literals.{is_index_atom, is_named}
 use Rattle.hp_ground.specs.declared.consts.Consts.{Consts}
 use Rattle.hp_ground.specs.Ground.{IsGroundAtom, is_idx_atom, is_num_atom, names_have_sort, sides_have_sort}
 use Rattle.hp_scope.proofs.Names.{ground_symbols}
@@ -54,21 +54,28 @@ module _ (consts : Consts) (atom : Atom) where
   abbrev sort : Sort
   sort = atom_sort (ground_symbols consts) (variables []) atom
 
+  abbrev l : Form
+  l = form_of consts.names atom.left
+
+  abbrev r : Form
+  r = form_of consts.names atom.right
+
   -- both sides are index terms with names of sort idx, of which one has a name
-  idx_by_sort : (a b : Option Form) → FormMatches consts a idx_left f m → FormMatches consts b idx_right g n → f.idx ≡ true → g.idx ≡ true → sort ≡ Idx
-      → ((idx_left && idx_right) && are_index_sides a b) ≡ true
-  idx_by_sort (Some a) (Some b) p q u v e =
+  idx_by_sort : (a b : Bool) → FormMatches consts a l idx_left f m → FormMatches consts b r idx_right g n → f.idx ≡ true → g.idx ≡ true → sort ≡ Idx
+      → ((idx_left && idx_right) && ((a && b) && (is_named l.base || is_named r.base))) ≡ true
+  idx_by_sort true true p q u v e =
       let left = sym p.0 ∙ u in
       let right = sym q.0 ∙ v in
-      both (idx_left && idx_right) (is_named a.base || is_named b.base) (both idx_left idx_right left right)
-      (one_named a.base b.base (sym (λ i. unwrap_or (option_or (p.1 left i) (q.1 right i)) Num) ∙ e))
-  idx_by_sort (Some a) None p q u v e = absurd (cc)
-  idx_by_sort None b p q u v e = absurd (cc)
+      both (idx_left && idx_right) (is_named l.base || is_named r.base) (both idx_left idx_right left right)
+      (one_named l.base r.base (sym (λ i. unwrap_or (option_or (p.1 left i) (q.1 right i)) Num) ∙ e))
+  idx_by_sort true false p q u v e = absurd (cc)
+  idx_by_sort false b p q u v e = absurd (cc)
 
-  sort_by_idx : (a b : Option Form) → FormMatches consts a idx_left f m → FormMatches consts b idx_right g n → idx_left ≡ true → idx_right ≡ true → are_index_sides a b ≡ true → sort ≡ Idx
-  sort_by_idx (Some a) (Some b) p q left right e = (λ i. unwrap_or (option_or (p.1 left i) (q.1 right i)) Num) ∙ named_one a.base b.base e
-  sort_by_idx (Some a) None p q left right e = absurd (cc)
-  sort_by_idx None b p q left right e = absurd (cc)
+  sort_by_idx : (a b : Bool) → FormMatches consts a l idx_left f m → FormMatches consts b r idx_right g n → idx_left ≡ true → idx_right ≡ true
+      → ((a && b) && (is_named l.base || is_named r.base)) ≡ true → sort ≡ Idx
+  sort_by_idx true true p q left right e = (λ i. unwrap_or (option_or (p.1 left i) (q.1 right i)) Num) ∙ named_one l.base r.base e
+  sort_by_idx true false p q left right e = absurd (cc)
+  sort_by_idx false b p q left right e = absurd (cc)
 
   or_right : (a b : Bool) → b ≡ true → (a || b) ≡ true
   or_right true b e = refl
@@ -84,7 +91,7 @@ module _ (consts : Consts) (atom : Atom) where
       let as_idx = subst (λ (s : Sort). is_sorted_as (ground_symbols consts) (variables []) atom s ≡ true) e sorted in
       let each = and_parts f.idx g.idx (and_parts (f.idx && g.idx) true as_idx).0 in
       or_right (is_num_atom consts atom) (is_idx_atom consts atom)
-      (idx_by_sort (form_of consts.names atom.left) (form_of consts.names atom.right) (form-matches consts atom.left) (form-matches consts atom.right) each.0 each.1 e)
+      (idx_by_sort (is_index_term consts.names atom.left) (is_index_term consts.names atom.right) (form-matches consts atom.left) (form-matches consts atom.right) each.0 each.1 e)
   ground_by_sort sorted (inr e) =
       let as_num = subst (λ (s : Sort). is_sorted_as (ground_symbols consts) (variables []) atom s ≡ true) e sorted in
       let each = and_parts f.num g.num (and_parts (f.num && g.num) true as_num).0 in
@@ -103,4 +110,4 @@ module _ (consts : Consts) (atom : Atom) where
           let is : is_idx_atom consts atom ≡ true = sym (ap (λ b. b || is_idx_atom consts atom) t) ∙ ground in
           let parts = and_parts (sides_have_sort consts Idx atom) (is_index_atom consts.names atom) is in
           let each = and_parts idx_left idx_right parts.0 in
-          inl (sort_by_idx (form_of consts.names atom.left) (form_of consts.names atom.right) (form-matches consts atom.left) (form-matches consts atom.right) each.0 each.1 parts.1)
+          inl (sort_by_idx (is_index_term consts.names atom.left) (is_index_term consts.names atom.right) (form-matches consts atom.left) (form-matches consts atom.right) each.0 each.1 parts.1)

@@ -2,10 +2,8 @@
 use Rattle.std.proofs.Common.{◌≡◌, ℕ, ◌+◌, List, [], ◌∷◌, ◌++◌, ◌||◌, Bool, true, false, map, Option, Some, None, refl, sym, subst, ◌∙◌, append_assoc, append-nil}
 use Rattle.std.specs.Prelude.{if◌then◌else◌}
 use Rattle.std.specs.List.{All}
-use Rattle.std.specs.Str.{bytes_eq}
 use Rattle.std.specs.Option.{option_or}
 use Rattle.std.proofs.lemmas.Bool.{or_parts}
-use Rattle.std.proofs.lemmas.List.Folds.{list_any-append}
 use Rattle.std.proofs.lemmas.List.Elements.{All-head, All-tail}
 use Rattle.hp_ast.specs.declared.problem.Decl.{Decl}
 use Rattle.hp_ast.specs.declared.problem.Decl.TheVariants.{Const, Fun}
@@ -16,8 +14,8 @@ use Rattle.hp_sorts.specs.declared.tables.Tables.{Tables}
 use Rattle.hp_sorts.specs.Numbered.{Name, is_among}
 use Rattle.hp_sorts.specs.Symbols.{symbols, declare, is_declared}
 use Rattle.hp_sorts.specs.Faults.{decl_fault, decls_fault}
-use Rattle.hp_norm.specs.Numbered.{AreDistinct}
-use Rattle.hp_norm.proofs.Texts.{apart_back}
+use Rattle.hp_names.specs.Names.{AreDistinct}
+use Rattle.hp_names.proofs.Distinct.{distinct_more}
 use Rattle.hp_ground.specs.declared.consts.Consts.{Consts}
 use Rattle.hp_ground.specs.Ground.{IsGroundDecl, consts_of, declared_name}
 
@@ -40,15 +38,6 @@ symbols-ground (Fun name args value level ∷ decls) all = absurd (All-head IsGr
 pub none-both : (a b : Option SortErr) → option_or a b ≡ None → (a ≡ None) × (b ≡ None)
 none-both None b e = (refl, e)
 none-both (Some a) b e = absurd (cc)
-
-neither : (a b : Bool) → a ≡ false → b ≡ false → (a || (b || false)) ≡ false
-neither a b e f = λ i. e i || (f i || false)
-
-distinct_more : (names : List Name) (name : Name) → AreDistinct names → is_among name names ≡ false → AreDistinct (names ++ name ∷ [])
-distinct_more [] name d e = (refl, tt)
-distinct_more (first ∷ names) name d e =
-    let parts = or_parts (bytes_eq name first) (is_among name names) e in
-    (list_any-append (bytes_eq first) names (name ∷ []) ∙ neither (is_among first names) (bytes_eq first name) d.0 (apart_back name first parts.0), distinct_more names name d.1 parts.1)
 
 not_twice : (twice : Bool) (err : SortErr) → (if twice then Some err else None) ≡ None → twice ≡ false
 not_twice true err e = absurd (cc)

@@ -16,7 +16,7 @@ use Rattle.hp_sorts.specs.Terms.{difference_forms, first_sort, first_step, forms
 use Rattle.hp_norm.specs.declared.collect.Form.{Form}
 use Rattle.hp_norm.specs.declared.collect.Shape.{Shape}
 use Rattle.hp_norm.specs.declared.collect.Shape.TheVariants.{Number, Sum, Other}
-use Rattle.hp_norm.specs.Forms.{minus_shape, named_shape, neg_shape, number_shape, plus_shape, shape_form, shape_of, shape_step, form_of}
+use Rattle.hp_norm.specs.Forms.{form_of, is_index_shape, is_index_term, minus_shape, named_shape, neg_shape, number_shape, plus_shape, shape_form, shape_of, shape_step}
 use Rattle.hp_ground.specs.declared.consts.Consts.{Consts}
 use Rattle.hp_ground.specs.Ground.{is_of, names_have_sort, names_step}
 use Rattle.hp_scope.proofs.Names.{ground_symbols}
@@ -184,14 +184,14 @@ module _ (consts : Consts) where
 
   -- ---- what atoms ask
   -- the same of the form alone
-  abbrev pub FormMatches : Option Form → Bool → Forms → Option Sort → Type 0
-  FormMatches None named forms first = forms.idx ≡ false
-  FormMatches (Some form) named forms first = (forms.idx ≡ named) × (named ≡ true → first ≡ base_sort form.base)
+  abbrev pub FormMatches : Bool → Form → Bool → Forms → Option Sort → Type 0
+  FormMatches false form named forms first = forms.idx ≡ false
+  FormMatches true form named forms first = (forms.idx ≡ named) × (named ≡ true → first ≡ base_sort form.base)
 
-  pub form-matches : (t : Term) → FormMatches (form_of consts.names t) (named Idx t) (forms t) (first t)
+  pub form-matches : (t : Term) → FormMatches (is_index_term consts.names t) (form_of consts.names t) (named Idx t) (forms t) (first t)
   form-matches t = by (shape_of consts.names t) (agrees t).0
     where
-      by : (a : Shape) → Matches a (named Idx t) (forms t) (first t) → FormMatches (shape_form a) (named Idx t) (forms t) (first t)
+      by : (a : Shape) → Matches a (named Idx t) (forms t) (first t) → FormMatches (is_index_shape a) (shape_form a) (named Idx t) (forms t) (first t)
       by (Number k) p = (p.0 ∙ sym p.2, λ e. p.3)
       by (Sum form) p = (p.0, p.2)
       by Other p = p.0

@@ -1,14 +1,10 @@
 use Rattle.hp_base.specs.declared.literal.Rel.TheVariants.{Lt}
 use Rattle.hp_base.specs.declared.literal.Lit.TheVariants.{Idx}
 use Rattle.hp_norm.specs.Literals.{compared}
-use Rattle.hp_norm.specs.Answers.{Pushed}
-use Rattle.std.proofs.Common.{subst, [], ◌∷◌}
 use Rattle.hp_norm.proofs.Steps.{two_pushed}
 use Rattle.hp_norm.proofs.atoms.push_apart.Goals as goal
 
-pub returns-in-Done : goal.returns-in-Done
-returns-in-Done c =
+pub returns : goal.returns
+returns c =
     two_pushed (Idx (compared Lt c.args.left c.args.right)) (Idx (compared Lt c.args.right c.args.left)) c.args.lits.now c.push_compared.new.lits
-    c.push_compared-in-Done.new.lits c.push_compared-in-Done.result
-    (subst (Pushed (Idx (compared Lt c.args.left c.args.right) ∷ []) c.args.lits.now c.push_compared.new.lits) c.in-Done.is c.push_compared.ensures)
-    c.push_compared-in-Done.ensures
+    c.push_compared-2.new.lits c.in_ok-push_compared.field-0 c.push_compared-2.result c.in_ok-push_compared.ensures c.push_compared-2.ensures
