@@ -1,7 +1,6 @@
 -- The value of a term in a structure.
-use Rattle.std.specs.Prelude.{ℕ, zero, suc, ◌+◌, List, [], ◌∷◌, ◌++◌, Bool, true, false, ◌&&◌, ◌||◌, not, if◌then◌else◌, pos, codes, IsTrue, ◌==◌, slice_index_or, ◌≡◌}
+use Rattle.std.specs.Prelude.{ℕ, zero, suc, List, [], ◌∷◌, Bool, true, false, ◌&&◌, ◌||◌, not, if◌then◌else◌, pos, codes, slice_index_or}
 use Rattle.std.specs.Str.{bytes_eq}
-use Rattle.std.specs.List.{list_all}
 use Rattle.hp_math.specs.Rational.{ℚ, whole, ◌+ℚ◌, ◌-ℚ◌, ◌*ℚ◌, neg_ℚ, le_ℚ, lt_ℚ, eq_ℚ}
 use Rattle.hp_ast.specs.declared.term.Term.{Term, fold-Term}
 use Rattle.hp_ast.specs.declared.term.Term.TheOpen.{Term-F}

@@ -1,7 +1,7 @@
 -- An atom over index terms is true in an environment exactly where one of its literals is true at the values of the names.
 use Rattle.std.proofs.Common.{◌≡◌, ◌↔◌, ◌⊎◌, Bool, true, false, cond, pos, Option, Some, None, refl, sym, ap, subst, ◌∙◌, inl, inr}
 use Rattle.std.proofs.lemmas.Bool.{eqb-true}
-use Rattle.hp_math.specs.Rational.{ℚ, whole, ◌-ℚ◌, ◌≤ℚ◌, ◌<ℚ◌, is_whole, eq_ℚ}
+use Rattle.hp_math.specs.Rational.{whole, ◌-ℚ◌, ◌≤ℚ◌, ◌<ℚ◌, is_whole, eq_ℚ}
 use Rattle.hp_math.proofs.Field.{+ℚ-neg_ℚ, ≤ℚ_refl, le_ℚ-true, lt_ℚ-true}
 use Rattle.hp_ast.specs.declared.problem.Cmp.{Cmp}
 use Rattle.hp_ast.specs.declared.problem.Cmp.TheVariants.{Le, Lt, Eq, Ne, Ge, Gt}
