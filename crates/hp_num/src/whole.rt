@@ -2,9 +2,10 @@
 //!
 //! Fractions and exact rows are made of these, so the arithmetic of their contracts is that of ℤ.
 
-ghost use Rattle.std.specs.Prelude.{◌≡◌, ◌<◌, ◌^◌, ◌-◌, pos, neg_ℤ, ◌≤ℤ◌, int_div, unsigned_abs, ℕ};
+ghost use Rattle.std.specs.Prelude.{◌≡◌, ◌<◌, ◌^◌, ◌-◌, pos, neg_ℤ, ◌≤ℤ◌, int_div, unsigned_abs};
 ghost use Rattle.std.specs.Int.{IsGcd};
-ghost use Rattle.hp_num.specs.Wide.{times_of, plus_of, minus_of};
+ghost use Rattle.hp_num.specs.Divisor.{gcd};
+ghost use Rattle.hp_num.specs.Wide.{times_of, plus_of, minus_of, mul_sub_of};
 
 use crate::wide::{Wide, minus, plus, times};
 use std::marker::Model;
@@ -86,6 +87,16 @@ impl Whole {
         })
     }
 
+    /// `d * a - c * b`, as `whole_mul_sub`.
+    #[tactic(auto, unfolding(crate::specs::Wide::mul_sub_of))]
+    pub fn mul_sub(d: Whole, a: Whole, c: Whole, b: Whole) -> Result<Whole, Wide>
+        ensures { result ≡ mul_sub_of d a c b }
+    {
+        let left = d.times(a)?;
+        let right = c.times(b)?;
+        left.minus(right)
+    }
+
     /// The quotient, rounded toward 0.
     pub fn over(self, divisor: u128) -> Whole
         requires positive { 0 < divisor }
@@ -100,7 +111,9 @@ impl Whole {
 
 /// The greatest common divisor, `right` where `left` is 0.
 pub fn gcd(left: u128, right: u128) -> u128
-    ensures { IsGcd left right result }
+    ensures value { result ≡ gcd left right }
+    ensures greatest { IsGcd left right result }
+    ensures narrow { left < 2 ^ 127 → right < 2 ^ 127 → result < 2 ^ 127 }
 {
     let mut x = left;
     let mut y = right;
