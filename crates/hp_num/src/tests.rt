@@ -176,6 +176,8 @@ fn lists_and_texts_hold_what_was_pushed(rt: HostRuntime) -> Result<(), Fail> {
     assert_eq!(rt; *list.get(1), 9);
     assert_eq!(rt; list.pop(), Some(7));
     assert_eq!(rt; list.as_slice(), [5, 9].as_slice());
+    let again = List::from_slice(rt.alloc(), list.as_slice())?;
+    assert_eq!(rt; again.as_slice(), [5, 9].as_slice());
 
     let mut text = Text::from_slice(rt.alloc(), b"ab")?;
     let copy = text.copy(rt.alloc())?;
