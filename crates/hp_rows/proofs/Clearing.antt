@@ -1,15 +1,13 @@
 -- What the computed steps do: the difference of two lines, and its division.
-use Rattle.std.proofs.Common.{◌≡◌, ℕ, zero, suc, ◌+◌, ◌*◌, ◌/◌, ◌%◌, ◌<◌, inl, inr, ℤ, pos, negsuc, ◌-ℤ◌, ◌*ℤ◌, neg_ℤ, ◌<ℤ◌, refl, sym, ◌∙◌, ap, subst, arith, List, [], ◌∷◌, length, map, true, false, nat_eq, cond, Result, Ok, Err, unsigned_abs}
+use Rattle.std.proofs.Common.{◌≡◌, ℕ, zero, suc, ◌+◌, ◌*◌, ◌/◌, ◌<◌, inl, inr, ℤ, pos, negsuc, ◌-ℤ◌, ◌*ℤ◌, neg_ℤ, ◌<ℤ◌, refl, sym, ◌∙◌, ap, subst, arith, List, [], ◌∷◌, length, map, true, false, nat_eq, cond, Ok, unsigned_abs}
 use Rattle.std.proofs.lemmas.List.{length-map}
 use Rattle.std.proofs.lemmas.Int.{ints}
 use Rattle.std.proofs.lemmas.Bool.{eqb-true, eq-eqb, cases_lt}
-use Rattle.std.proofs.lemmas.Nat.Gcd.{IsGcd-from_zero, IsGcd-from_mod, dvd_trans, dvd_refl, dvd-zero}
-use Rattle.std.proofs.Math.Nat.{pos_of_dvd_of_pos, div-mul_cancel, mod-lt, zero-div}
-use Rattle.std.specs.Int.{IsGcd}
+use Rattle.std.proofs.lemmas.Nat.Gcd.{dvd_trans, dvd_refl, dvd-zero}
+use Rattle.std.proofs.Math.Nat.{pos_of_dvd_of_pos, div-mul_cancel, zero-div}
 use Prim.Native.Nat.{◌∣◌}
 use borrow.Author.Differences.{same_in, neg_is}
 use Rattle.hp_math.proofs.Whole.{up-*ℤ, down-*ℤ, *ℤ_smono}
-use Rattle.hp_num.specs.declared.wide.Wide.{Wide}
 use Rattle.hp_num.specs.Wide.{◌>>=◌, mul_sub_of}
 use Rattle.hp_num.proofs.Divisor.{gcd-is}
 use Rattle.hp_num.proofs.Given.{came, mul_sub_gave}

@@ -1,10 +1,10 @@
 -- Sums of products, and the signs of their parts.
-use Rattle.std.proofs.Common.{◌≡◌, ℕ, suc, ◌⊎◌, inl, inr, ℤ, pos, ◌+ℤ◌, ◌-ℤ◌, ◌*ℤ◌, ◌≤ℤ◌, refl, sym, ◌∙◌, ap, subst, arith, List, [], ◌∷◌, length, get_or, map, neg_ℤ}
+use Rattle.std.proofs.Common.{◌≡◌, ℕ, suc, ◌⊎◌, inl, inr, ℤ, pos, ◌+ℤ◌, ◌-ℤ◌, ◌*ℤ◌, ◌≤ℤ◌, refl, sym, ◌∙◌, ap, arith, List, [], ◌∷◌, length, get_or, neg_ℤ}
 use Rattle.std.proofs.lemmas.Int.{ints}
 use borrow.Author.Differences.{same_in, neg_is}
 use Rattle.hp_math.specs.Rational.{ℚ, ratio, whole, ◌+ℚ◌, ◌*ℚ◌, ◌-ℚ◌, ◌≤ℚ◌, ◌<ℚ◌}
 use Rattle.hp_math.proofs.Whole.{*ℤ_assoc, *ℤ-+ℤ, +ℤ-*ℤ, *ℤ_mono_nonneg, up-*ℤ, down-*ℤ}
-use Rattle.hp_math.proofs.Field.{common, by_common1, by_common2, at_one, fractions, whole_at, whole_times_at, ≤ℚ_refl}
+use Rattle.hp_math.proofs.Field.{by_common1, by_common2, at_one, fractions, whole_at, whole_times_at, ≤ℚ_refl}
 use Rattle.hp_math.proofs.Rational.{ratio-inj}
 use Rattle.hp_math.proofs.Laws.{by_common4}
 use Rattle.hp_rows.specs.Rows.{Values, dot}
