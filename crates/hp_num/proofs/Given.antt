@@ -1,5 +1,5 @@
 -- What a computation came from that was not refused, and the exact numbers that its operations gave.
-use Rattle.std.proofs.Common.{◌≡◌, ℕ, ℤ, ◌-ℤ◌, ◌*ℤ◌, ◌∙◌, refl, subst, Result, Ok, Err, IfOk, unsigned_abs}
+use Rattle.std.proofs.Common.{◌≡◌, ℤ, ◌-ℤ◌, ◌*ℤ◌, ◌∙◌, refl, subst, Result, Ok, Err, IfOk, unsigned_abs}
 use Rattle.hp_math.specs.Rational.{ℚ, ◌+ℚ◌, ◌*ℚ◌}
 use Rattle.hp_num.specs.declared.wide.Wide.{Wide}
 use Rattle.hp_num.specs.Divisor.{gcd}

@@ -1,6 +1,6 @@
 -- The operation that a refused formula names passes 2^127 - 1.
-use Rattle.std.proofs.Common.{◌≡◌, ℕ, ◌<◌, ◌≤◌, ◌^◌, ◌/◌, ℤ, pos, ◌+ℤ◌, ◌-ℤ◌, ◌*ℤ◌, Result, Ok, Err, IfErr, true, false, cond, refl, inl, inr, arith, unsigned_abs}
-use Rattle.std.proofs.lemmas.Bool.{ltb-true, lt-ltb, cases_lt}
+use Rattle.std.proofs.Common.{◌≡◌, ℕ, ◌≤◌, ◌^◌, ◌/◌, ℤ, pos, ◌+ℤ◌, ◌-ℤ◌, ◌*ℤ◌, Result, Ok, Err, IfErr, true, false, cond, refl, inl, inr, unsigned_abs}
+use Rattle.std.proofs.lemmas.Bool.{lt-ltb, cases_lt}
 use Rattle.std.specs.Prelude.{int_div}
 use Rattle.hp_math.specs.Rational.{ℚ}
 use Rattle.hp_num.specs.declared.wide.Wide.{Wide}

@@ -7,7 +7,7 @@ ghost use Rattle.std.specs.Int.{IsGcd};
 ghost use Rattle.hp_num.specs.Divisor.{gcd};
 ghost use Rattle.hp_num.specs.Wide.{times_of, plus_of, minus_of, mul_sub_of};
 
-use crate::wide::{Wide, minus, plus, times};
+use crate::wide::{Wide, minus, plus, times, whole_mul_sub};
 use std::marker::Model;
 
 /// A whole number of magnitude at most 2^127 - 1.
@@ -87,14 +87,13 @@ impl Whole {
         })
     }
 
-    /// `d * a - c * b`, as `whole_mul_sub`.
-    #[tactic(auto, unfolding(crate::specs::Wide::mul_sub_of))]
+    /// `d * a - c * b`, or a `Wide` as of `whole_mul_sub`.
     pub fn mul_sub(d: Whole, a: Whole, c: Whole, b: Whole) -> Result<Whole, Wide>
         ensures { result ≡ mul_sub_of d a c b }
     {
-        let left = d.times(a)?;
-        let right = c.times(b)?;
-        left.minus(right)
+        Ok(Whole {
+            value: whole_mul_sub(d.value, a.value, c.value, b.value)?,
+        })
     }
 
     /// The quotient, rounded toward 0.
