@@ -1,4 +1,7 @@
+ghost use Rattle.std.specs.Prelude.{◌≡◌, IfOk};
+
 use hp_num::List;
+use std::alloc::{AllocError, Global};
 
 /// A constant or a definition of a problem: constants first, in the order of their declarations from 0, and then
 /// definitions in the order of their making.
@@ -53,4 +56,30 @@ pub enum Lit {
     Num(NumLit),
     Idx(IdxLit),
     Ptr(PtrLit),
+}
+
+impl NumLit {
+    /// An equal literal.
+    pub fn copy(&self, alloc: Global) -> Result<NumLit, AllocError>
+        ensures { IfOk result (λ copy. copy ≡ self.now) }
+    {
+        Ok(NumLit {
+            rel: self.rel,
+            parts: List::from_slice(alloc, self.parts.as_slice())?,
+            bound: self.bound,
+        })
+    }
+}
+
+impl Lit {
+    /// An equal literal.
+    pub fn copy(&self, alloc: Global) -> Result<Lit, AllocError>
+        ensures { IfOk result (λ copy. copy ≡ self.now) }
+    {
+        match self {
+            Lit::Num(num) => Ok(Lit::Num(num.copy(alloc)?)),
+            Lit::Idx(row) => Ok(Lit::Idx(*row)),
+            Lit::Ptr(pair) => Ok(Lit::Ptr(*pair)),
+        }
+    }
 }

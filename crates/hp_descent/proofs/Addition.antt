@@ -10,15 +10,13 @@ use Rattle.std.specs.declared.cmp.Ordering.TheVariants.{Less, Equal, Greater}
 use Rattle.hp_math.specs.Rational.{ℚ, whole, ◌+ℚ◌, ◌*ℚ◌, ◌≤ℚ◌, ◌<ℚ◌}
 use Rattle.hp_math.proofs.Field.{+ℚ_assoc, +ℚ_comm, +ℚ_zero, ≤ℚ_refl, <ℚ_irrefl}
 use Rattle.hp_math.proofs.Laws.{≤ℚ_of_<ℚ}
-use Rattle.hp_num.specs.Wide.{◌>>=◌}
+use Rattle.hp_num.specs.Wide.{◌>>=◌, mul_of, add_of}
+use Rattle.hp_num.proofs.Given.{came, mul_gave, add_gave}
 use Rattle.hp_base.specs.declared.literal.Rel.{Rel}
 use Rattle.hp_base.specs.declared.literal.Rel.TheVariants.{Le, Lt, Eq}
 use Rattle.hp_base.specs.declared.literal.Part.{Part}
 use Rattle.hp_base.specs.declared.literal.NumLit.{NumLit}
 use Rattle.hp_base.specs.Truth.{Values, name_value, parts_value, Compares, NumIsTrue}
-use Rattle.hp_rows.specs.Arithmetic.{mul_q, add_q}
-use Rattle.hp_rows.proofs.Clearing.{bound}
-use Rattle.hp_rows.proofs.Number.{mul_gave, add_gave}
 use Rattle.hp_descent.specs.Values.{add_product, sum_at, exact_sum, Stands, is_met}
 
 -- a narrow number is its own image in 128 bits
@@ -45,10 +43,10 @@ exact_value v (p ∷ ps) = ap (λ q. (whole p.coef *ℚ name_value v p.name.0) +
 pub sum_gave : (v : ℕ → ℚ) (sum : ℚ) (ps : List Part) (s : ℚ) → sum_at v sum ps ≡ Ok s → s ≡ sum +ℚ exact_sum v ps
 sum_gave v sum [] s h = (let e : s ≡ sum = cc in e ∙ sym (+ℚ_zero sum))
 sum_gave v sum (p ∷ ps) s h =
-    let b = bound (add_product sum p.coef (v p.name.0)) (λ b. sum_at v b ps) s h in
-    let a = bound (mul_q (whole p.coef) (v p.name.0)) (λ y. add_q sum y) b.value b.first in
-    sum_gave v b.value ps s b.then_
-    ∙ (λ i. (add_gave sum a.value b.value a.then_ ∙ ap (λ q. sum +ℚ q) (mul_gave (whole p.coef) (v p.name.0) a.value a.first)) i +ℚ exact_sum v ps)
+    let b = came (add_product sum p.coef (v p.name.0)) (λ b. sum_at v b ps) s h in
+    let a = came (mul_of (whole p.coef) (v p.name.0)) (λ y. add_of sum y) b.value b.first in
+    sum_gave v b.value ps s b.rest
+    ∙ (λ i. (add_gave sum a.value b.value a.rest ∙ ap (λ q. sum +ℚ q) (mul_gave (whole p.coef) (v p.name.0) a.value a.first)) i +ℚ exact_sum v ps)
     ∙ +ℚ_assoc sum (whole p.coef *ℚ v p.name.0) (exact_sum v ps)
 
 pub whole_sum : (v : ℕ → ℚ) (ps : List Part) (s : ℚ) → sum_at v (whole (pos 0)) ps ≡ Ok s → s ≡ exact_sum v ps

@@ -4,13 +4,12 @@ use Rattle.std.specs.declared.cmp.Ordering.{Ordering}
 use Rattle.std.specs.declared.cmp.Ordering.TheVariants.{Less, Equal, Greater}
 use Rattle.hp_math.specs.Rational.{ℚ, whole, ◌+ℚ◌, ◌*ℚ◌, ◌<ℚ◌}
 use Rattle.hp_num.specs.declared.wide.Wide.{Wide}
-use Rattle.hp_num.specs.Wide.{◌>>=◌}
+use Rattle.hp_num.specs.Wide.{◌>>=◌, mul_of, add_of}
 use Rattle.hp_base.specs.declared.literal.Rel.{Rel}
 use Rattle.hp_base.specs.declared.literal.Rel.TheVariants.{Le, Lt, Eq}
 use Rattle.hp_base.specs.declared.literal.Part.{Part}
 use Rattle.hp_base.specs.declared.literal.NumLit.{NumLit}
 use Rattle.hp_base.specs.declared.valuation.NameValue.{NameValue}
-use Rattle.hp_rows.specs.Arithmetic.{mul_q, add_q}
 use Rattle.hp_rows.specs.Rows.{IsChain, HoldsBelow}
 use Rattle.hp_rows.specs.Points.{at_point}
 use Rattle.hp_rows.specs.Exact.{exact_point}
@@ -29,7 +28,7 @@ value_in (nv ∷ nvs) n = if nat_eq nv.name.0 n then nv.value else value_in nvs 
 
 -- the product of coefficient and value, added to a sum
 abbrev pub add_product : ℚ → ℤ → ℚ → Result ℚ Wide
-add_product sum coef value = mul_q (whole coef) value >>= λ y. add_q sum y
+add_product sum coef value = mul_of (whole coef) value >>= λ y. add_of sum y
 
 -- a sum to which the products of coefficient and value are added in the order of the parts
 abbrev pub sum_at : (ℕ → ℚ) → ℚ → List Part → Result ℚ Wide

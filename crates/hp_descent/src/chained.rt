@@ -41,7 +41,7 @@ pub fn value_at(
     match sum_among(values.as_slice(), other.parts.as_slice()) {
         Ok(sum) => Ok(standing(sum, other.bound)),
         Err(wide) => {
-            let chain = copy_of(alloc, chain)?;
+            let chain = List::from_slice(alloc, chain)?;
             Err(DescentErr::Strain(RowStrain {
                 chain,
                 at: At::Literal { line: 0, lit: 0 },
@@ -84,15 +84,4 @@ fn rows_from(alloc: Global, chain: &[u32]) -> Result<List<usize>, AllocError>
         rows.push(*number as usize - 1)?;
     }
     Ok(rows)
-}
-
-/// The same row numbers.
-fn copy_of(alloc: Global, chain: &[u32]) -> Result<List<u32>, AllocError>
-    ensures { IfOk result (λ copy. copy ≡ chain.now) }
-{
-    let mut copy = List::new(alloc);
-    for row in chain {
-        copy.push(*row)?;
-    }
-    Ok(copy)
 }

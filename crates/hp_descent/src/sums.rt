@@ -5,13 +5,12 @@
 ghost use Rattle.std.specs.Prelude.{◌≡◌, ◌↔◌, ◌<◌, ◌^◌, Ok, IfErr, IfOk, pos, true, false, unsigned_abs};
 ghost use Rattle.std.specs.List.{All};
 ghost use Rattle.hp_math.specs.Rational.{whole};
-ghost use Rattle.hp_rows.specs.Arithmetic.{add_q, mul_q};
 ghost use Rattle.hp_base.specs.Truth.{NumIsTrue, name_value, parts_value};
 ghost use Rattle.hp_descent.specs.Columns.{IsFit};
 ghost use Rattle.hp_descent.specs.Values.{Stands, add_product, is_met, sum_at, value_in};
 
 use hp_base::{Name, NameValue, NumLit, Part, Rel, Valuation};
-use hp_num::{Frac, Wide};
+use hp_num::{Frac, Whole, Wide};
 use std::cmp::Ordering;
 
 /// How the sum of the literal's parts stands to its bound at these values: a name by its number, a name past the end
@@ -114,25 +113,8 @@ fn add_product(sum: Frac, coef: i128, value: Frac) -> Result<Frac, Wide>
     requires { unsigned_abs coef < 2 ^ 127 }
     ensures { result ≡ add_product sum coef value }
 {
-    match product(coef, value) {
-        Ok(product) => add(sum, product),
-        Err(wide) => Err(wide),
-    }
-}
-
-/// Coefficient times value.
-fn product(coef: i128, value: Frac) -> Result<Frac, Wide>
-    requires { unsigned_abs coef < 2 ^ 127 }
-    ensures { result ≡ mul_q (whole coef) value }
-{
-    Frac::mul(fraction(coef), value)
-}
-
-/// The sum of two fractions.
-fn add(left: Frac, right: Frac) -> Result<Frac, Wide>
-    ensures { result ≡ add_q left right }
-{
-    Frac::add(left, right)
+    let product = Frac::mul(fraction(coef), value)?;
+    Frac::add(sum, product)
 }
 
 /// A whole number as a fraction.
@@ -140,5 +122,5 @@ fn fraction(value: i128) -> Frac
     requires { unsigned_abs value < 2 ^ 127 }
     ensures { result ≡ whole value }
 {
-    Frac::new(value, 1)
+    Frac::whole(Whole::new(value))
 }

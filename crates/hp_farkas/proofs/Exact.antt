@@ -6,24 +6,15 @@ use Rattle.hp_math.proofs.Whole.{*ℤ-+ℤ}
 use Rattle.hp_num.specs.declared.wide.Wide.{Wide}
 use Rattle.hp_num.specs.Wide.{times_of, plus_of, ◌>>=◌}
 use Rattle.hp_num.proofs.Bits.{times_gave, plus_gave}
+use Rattle.hp_num.proofs.Given.{came}
 use Rattle.hp_base.specs.declared.literal.Part.{Part}
 use Rattle.hp_base.specs.Leaf.{coefficient, Taken, sum_coefficient, sum_bound}
 use Rattle.hp_farkas.specs.Sums.{add_product, add_parts, sum_from, bound_from}
 use Rattle.hp_farkas.specs.Names.{HasName, Occurs}
 
--- ---- a step that was not refused has a result, from which the rest went on
-pub record Went (A B : Type 0) (r : Result A Wide) (f : A → Result B Wide) (y : B) : Type 0 where
-  pub value : A
-  pub first : r ≡ Ok value
-  pub rest : f value ≡ Ok y
-
-pub went : {A B : Type 0} (r : Result A Wide) (f : A → Result B Wide) (y : B) → (r >>= f) ≡ Ok y → Went A B r f y
-went (Ok x) f y h = record { value = x; first = refl; rest = h }
-went (Err e) f y h = cc
-
 product_exact : (s a b r : ℤ) → add_product s a b ≡ Ok r → r ≡ s +ℤ (a *ℤ b)
 product_exact s a b r h =
-    let w = went (times_of a b) (λ p. plus_of s p) r h in
+    let w = came (times_of a b) (λ p. plus_of s p) r h in
     (plus_gave s w.value r w.rest).value ∙ ap (λ p. s +ℤ p) (times_gave a b w.value w.first).value
 
 -- ---- a name
@@ -40,7 +31,7 @@ parts_exact : (n : ℕ) (m s r : ℤ) (ps : List Part) → add_parts n m s ps �
 parts_exact n m s r [] h = let e : s ≡ r = cc in let z = times_zero m in omega (arith, ints)
 parts_exact n m s r (p ∷ ps) h =
     (elim (nat_eq p.name.0 n) as (λ b. cond b (add_product s m p.coef >>= (λ t. add_parts n m t ps)) (add_parts n m s ps) ≡ Ok r → r ≡ s +ℤ (m *ℤ (cond b p.coef (pos 0) +ℤ coefficient n ps))) [
-      | true ↦ λ g. (let w = went (add_product s m p.coef) (λ t. add_parts n m t ps) r g in
+      | true ↦ λ g. (let w = came (add_product s m p.coef) (λ t. add_parts n m t ps) r g in
           joined s w.value r m p.coef (coefficient n ps) (product_exact s m p.coef w.value w.first) (parts_exact n m w.value r ps w.rest))
       | false ↦ λ g. skipped s r m (coefficient n ps) (parts_exact n m s r ps g)
     ]) h
@@ -51,7 +42,7 @@ added s t r a b h k = omega (arith, ints)
 pub sum_exact : (n : ℕ) (s r : ℤ) (ts : List Taken) → sum_from n s ts ≡ Ok r → r ≡ s +ℤ sum_coefficient n ts
 sum_exact n s r [] h = let e : s ≡ r = cc in omega (arith, ints)
 sum_exact n s r (t ∷ ts) h =
-    let w = went (add_parts n t.times s t.lit.parts) (λ u. sum_from n u ts) r h in
+    let w = came (add_parts n t.times s t.lit.parts) (λ u. sum_from n u ts) r h in
     added s w.value r (t.times *ℤ coefficient n t.lit.parts) (sum_coefficient n ts) (parts_exact n t.times s w.value t.lit.parts w.first) (sum_exact n w.value r ts w.rest)
 
 -- a name that does not occur adds nothing
@@ -77,5 +68,5 @@ no_name n (t ∷ ts) h =
 pub bound_exact : (s r : ℤ) (ts : List Taken) → bound_from s ts ≡ Ok r → r ≡ s +ℤ sum_bound ts
 bound_exact s r [] h = let e : s ≡ r = cc in omega (arith, ints)
 bound_exact s r (t ∷ ts) h =
-    let w = went (add_product s t.times t.lit.bound) (λ u. bound_from u ts) r h in
+    let w = came (add_product s t.times t.lit.bound) (λ u. bound_from u ts) r h in
     added s w.value r (t.times *ℤ t.lit.bound) (sum_bound ts) (product_exact s t.times t.lit.bound w.value w.first) (bound_exact w.value r ts w.rest)

@@ -16,7 +16,8 @@ use Rattle.hp_farkas.specs.Names.{IsIn, names_of}
 use Rattle.hp_farkas.specs.Sums.{sum_from, bound_from}
 use Rattle.hp_farkas.specs.Check.{vanish, is_less, has_strict, is_refuted, answer_of, IsChecked}
 use Rattle.hp_farkas.proofs.Names.{in_names, is_in}
-use Rattle.hp_farkas.proofs.Exact.{went, sum_exact, no_name, bound_exact}
+use Rattle.hp_num.proofs.Given.{came}
+use Rattle.hp_farkas.proofs.Exact.{sum_exact, no_name, bound_exact}
 
 is_zero : (a : ℤ) → int_eq a (pos 0) ≡ true → a ≡ pos 0
 is_zero a h = grind (arith, ints)
@@ -40,8 +41,8 @@ from_zero r s h = omega (arith, ints)
 vanish_true : (ts : List Taken) (ns : List ℕ) → vanish ts ns ≡ Ok true → (n : ℕ) → IsIn n ns → sum_coefficient n ts ≡ pos 0
 vanish_true ts [] h n q = absurd q
 vanish_true ts (m ∷ ms) h n q =
-    let w = went (sum_from m (pos 0) ts) (λ sum. vanish ts ms >>= (λ rest. Ok (int_eq sum (pos 0) && rest))) true h in
-    let v = went (vanish ts ms) (λ rest. Ok (int_eq w.value (pos 0) && rest)) true w.rest in
+    let w = came (sum_from m (pos 0) ts) (λ sum. vanish ts ms >>= (λ rest. Ok (int_eq sum (pos 0) && rest))) true h in
+    let v = came (vanish ts ms) (λ rest. Ok (int_eq w.value (pos 0) && rest)) true w.rest in
     let b = and_parts (int_eq w.value (pos 0)) v.value (Ok_same (int_eq w.value (pos 0) && v.value) true v.rest) in
     let z : sum_coefficient m ts ≡ pos 0 = sym (from_zero w.value (sum_coefficient m ts) (sum_exact m (pos 0) w.value ts w.first)) ∙ is_zero w.value b.0 in
     go z (λ j. vanish_true ts ms (v.first ∙ ap (λ x. Ok x) b.1) n j) q
@@ -53,8 +54,8 @@ vanish_true ts (m ∷ ms) h n q =
 vanish_same : (ts : List Taken) (ns : List ℕ) (b : Bool) → ((n : ℕ) → sum_coefficient n ts ≡ pos 0) → vanish ts ns ≡ Ok b → b ≡ true
 vanish_same ts [] b z h = cc
 vanish_same ts (m ∷ ms) b z h =
-    let w = went (sum_from m (pos 0) ts) (λ sum. vanish ts ms >>= (λ rest. Ok (int_eq sum (pos 0) && rest))) b h in
-    let v = went (vanish ts ms) (λ rest. Ok (int_eq w.value (pos 0) && rest)) b w.rest in
+    let w = came (sum_from m (pos 0) ts) (λ sum. vanish ts ms >>= (λ rest. Ok (int_eq sum (pos 0) && rest))) b h in
+    let v = came (vanish ts ms) (λ rest. Ok (int_eq w.value (pos 0) && rest)) b w.rest in
     let e : w.value ≡ pos 0 = from_zero w.value (sum_coefficient m ts) (sum_exact m (pos 0) w.value ts w.first) ∙ z m in
     sym (Ok_same (int_eq w.value (pos 0) && v.value) b v.rest) ∙ and_from (int_eq w.value (pos 0)) v.value (zero_is w.value e) (vanish_same ts ms v.value z v.first)
 
@@ -117,8 +118,8 @@ pub record Answered (ts : List Taken) (answer : Bool) : Type 0 where
 
 answered : (ts : List Taken) (answer : Bool) → answer_of ts ≡ Ok answer → Answered ts answer
 answered ts answer h =
-    let w = went (vanish ts (names_of ts)) (λ nothing. bound_from (pos 0) ts >>= (λ bound. Ok (nothing && is_refuted ts bound))) answer h in
-    let v = went (bound_from (pos 0) ts) (λ bound. Ok (w.value && is_refuted ts bound)) answer w.rest in
+    let w = came (vanish ts (names_of ts)) (λ nothing. bound_from (pos 0) ts >>= (λ bound. Ok (nothing && is_refuted ts bound))) answer h in
+    let v = came (bound_from (pos 0) ts) (λ bound. Ok (w.value && is_refuted ts bound)) answer w.rest in
     record {
       nothing = w.value;
       bound = v.value;

@@ -5,6 +5,7 @@ use Rattle.std.specs.List.{All}
 use Rattle.std.proofs.lemmas.Bool.{and_parts}
 use Rattle.std.proofs.lemmas.List.Elements.{All-head, All-tail}
 use Rattle.hp_math.specs.Rational.{is_whole}
+use Rattle.hp_num.proofs.Given.{came}
 use Rattle.hp_ast.specs.declared.problem.Sort.{Sort}
 use Rattle.hp_ast.specs.declared.problem.Sort.TheVariants as sort
 use Rattle.hp_ast.specs.declared.problem.Atom.{Atom}
@@ -27,7 +28,7 @@ use Rattle.hp_norm.proofs.Shapes.{index_sides}
 use Rattle.hp_norm.proofs.Truth as index
 use Rattle.hp_linear.specs.Steps.{Refusable, behind}
 use Rattle.hp_linear.specs.Literals.{num_literals}
-use Rattle.hp_linear.proofs.Refusals.{came, ok_same}
+use Rattle.hp_linear.proofs.Refusals.{ok_same}
 use Rattle.hp_linear.proofs.Truth as linear
 use Rattle.hp_ground.specs.declared.consts.Consts.{Consts}
 use Rattle.hp_ground.specs.Ground.{IsGroundAtom, IsGroundClause, IsIdxAtom, IsNumAtom, is_num_atom, names_have_sort, sides_have_sort}

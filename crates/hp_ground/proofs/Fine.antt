@@ -1,13 +1,14 @@
 -- Computations that may be refused, and what their values have where they are not.
 use Rattle.std.proofs.Common.{Result, Ok, Err, ℕ, Bool, true, false, cond, ◌^◌, ◌*◌, ◌/◌, nat_lt, List, [], ◌∷◌, unsigned_abs}
 use Rattle.hp_math.specs.Rational.{ℚ}
-use Rattle.hp_num.specs.Wide.{add_over, mul_over, times_of}
+use Rattle.hp_num.specs.Wide.{add_of, mul_of, times_of, ◌>>=◌}
 use Rattle.hp_num.specs.declared.wide.Wide.{Wide as TooWide}
 use Rattle.std.specs.Prelude.{pos}
+use Rattle.hp_num.specs.Divisor.{gcd}
 use Rattle.hp_linear.specs.declared.form.Form.{Form}
 use Rattle.hp_linear.specs.declared.form.Summand.{Summand}
 use Rattle.hp_base.specs.declared.refusal.Refusal.TheVariants.{Wide, Memory}
-use Rattle.hp_linear.specs.Steps.{Refusable, ◌>>=◌, gcd, unless_wide}
+use Rattle.hp_linear.specs.Steps.{Refusable, unless_wide}
 use Rattle.hp_linear.specs.Forms.{product_of, sum_of}
 use Rattle.hp_linear.specs.Wholes.{denominator_of, lcm_of, multiple_of, scaled_number}
 
@@ -30,10 +31,10 @@ fine_wide (Ok x) = tt
 fine_wide (Err e) = tt
 
 pub fine_sum : (x y : ℚ) → Fine Any (sum_of x y)
-fine_sum x y = fine_wide (add_over (gcd x.den y.den) x y)
+fine_sum x y = fine_wide (add_of x y)
 
 pub fine_product : (x y : ℚ) → Fine Any (product_of x y)
-fine_product x y = fine_wide (mul_over (gcd (unsigned_abs x.num) y.den) (gcd (unsigned_abs y.num) x.den) x y)
+fine_product x y = fine_wide (mul_of x y)
 
 pub fine_scaled : (m : ℕ) (q : ℚ) → Fine Any (scaled_number m q)
 fine_scaled m q = fine_wide (times_of q.num (pos (m / q.den)))

@@ -5,6 +5,7 @@ use Rattle.std.specs.Str.{bytes_eq}
 use Rattle.std.specs.List.{All}
 use Rattle.std.proofs.lemmas.List.Elements.{All-nil, All-cons, All-head, All-tail}
 use Rattle.hp_math.specs.Rational.{ℚ}
+use Rattle.hp_num.proofs.Given.{came}
 use Rattle.hp_ast.specs.declared.problem.Sort.{Sort}
 use Rattle.hp_ast.specs.declared.problem.Sort.TheVariants as sort
 use Rattle.hp_ast.specs.declared.problem.Clause.{Clause}
@@ -30,7 +31,7 @@ use Rattle.hp_names.specs.Names.{AreDistinct}
 use Rattle.hp_names.proofs.Distinct.{absent}
 use Rattle.hp_names.proofs.Texts.{text_same}
 use Rattle.hp_linear.specs.Steps.{behind}
-use Rattle.hp_linear.proofs.Refusals.{came, ok_same}
+use Rattle.hp_linear.proofs.Refusals.{ok_same}
 use Rattle.hp_ground.specs.declared.consts.Consts.{Consts}
 use Rattle.hp_ground.specs.Ground.{IsGroundClause, IsGroundDecl, consts_of, declared, declared_name, declared_sort}
 use Rattle.hp_ground.specs.Lines.{IsGroundOf, as_constant, clause_literals, from_clause, line_of, lines_from}

@@ -6,6 +6,7 @@ use Rattle.std.specs.List.{All}
 use Rattle.std.proofs.lemmas.Bool.{and_parts}
 use Rattle.std.proofs.lemmas.List.Elements.{All-nil, All-cons}
 use Rattle.hp_math.specs.Rational.{ℚ, whole, eq_ℚ}
+use Rattle.hp_num.specs.Wide.{◌>>=◌}
 use Rattle.hp_ast.specs.declared.term.Term.{Term, fold-roll-Term, ind-Term, roll-Term, map-Term}
 use Rattle.hp_ast.specs.declared.term.Term.TheOpen.{Term-F}
 use Rattle.hp_ast.specs.declared.problem.Sort.{Sort}
@@ -25,7 +26,7 @@ use Rattle.hp_model.specs.Sides.{taken}
 use Rattle.hp_linear.specs.declared.form.Form.{Form}
 use Rattle.hp_linear.specs.declared.form.Summand.{Summand}
 use Rattle.hp_linear.specs.declared.wholes.Row.{Row}
-use Rattle.hp_linear.specs.Steps.{Refusable, ◌>>=◌, behind}
+use Rattle.hp_linear.specs.Steps.{Refusable, behind}
 use Rattle.hp_linear.specs.Forms.{copies, form_step, form_with, is_linear, lin_of, linear_step, minus_form, named_form, neg_form, neg_summand, plus_form, plus_summands, product_of, sum_of, times_form, times_summands, unless_zero}
 use Rattle.hp_linear.specs.Wholes.{denominator_of, lowest_row, one_if_zero, over, row_divisor, row_of, row_with, scaled_number, scaled_parts, scaled_row, whole_copies}
 use Rattle.hp_linear.specs.Literals.{apart_literals, compared, literals, num_literals, one_literal, row_literal}

@@ -3,6 +3,7 @@ use Rattle.std.proofs.Common.{◌≡◌, ◌<◌, ◌≤◌, ℕ, zero, suc, ◌
 use Rattle.std.specs.List.{All}
 use Rattle.std.proofs.lemmas.List.{drop_more}
 use Rattle.std.proofs.lemmas.List.Elements.{All-nil, All-cons, All-append}
+use Rattle.hp_num.specs.Wide.{◌>>=◌}
 use Rattle.hp_ast.specs.declared.problem.Atom.{Atom}
 use Rattle.hp_ast.specs.declared.problem.Clause.{Clause}
 use Rattle.hp_ast.specs.declared.problem.Sort.{Sort}
@@ -16,7 +17,7 @@ use Rattle.hp_model.specs.declared.sides.Side.{Side}
 use Rattle.hp_model.specs.declared.sides.Side.TheVariants.{Guard, Head}
 use Rattle.hp_norm.specs.Literals.{IsLightAtom, atom_literals}
 use Rattle.hp_norm.specs.Answers as index
-use Rattle.hp_linear.specs.Steps.{Refusable, ◌>>=◌, behind}
+use Rattle.hp_linear.specs.Steps.{Refusable, behind}
 use Rattle.hp_linear.specs.Literals.{num_literals}
 use Rattle.hp_linear.specs.Normal.{IsNormal}
 use Rattle.hp_linear.specs.Answers as linear

@@ -1,6 +1,7 @@
 -- The ground lines of a problem: a line for each clause, with the literals of its atoms.
 use Rattle.std.specs.Prelude.{◌≡◌, ℕ, ◌+◌, List, [], ◌∷◌, map, length, Bool, true, false, if◌then◌else◌, Option, Some, None, Ok, Err, slice_get}
 use Rattle.std.specs.List.{All}
+use Rattle.hp_num.specs.Wide.{◌>>=◌}
 use Rattle.hp_ast.specs.declared.problem.Sort.{Sort}
 use Rattle.hp_ast.specs.declared.problem.Sort.TheVariants as sort
 use Rattle.hp_ast.specs.declared.problem.Atom.{Atom}
@@ -23,7 +24,7 @@ use Rattle.hp_model.specs.declared.sides.Side.TheVariants.{Guard, Head}
 use Rattle.hp_norm.specs.Forms.{IsSmall}
 use Rattle.hp_norm.specs.Literals.{atom_literals}
 use Rattle.hp_base.specs.declared.refusal.Refusal.TheVariants as refused
-use Rattle.hp_linear.specs.Steps.{Refusable, ◌>>=◌, behind}
+use Rattle.hp_linear.specs.Steps.{Refusable, behind}
 use Rattle.hp_linear.specs.Literals.{num_literals}
 use Rattle.hp_linear.specs.Normal.{IsNormalNum}
 use Rattle.hp_ground.specs.declared.consts.Consts.{Consts}

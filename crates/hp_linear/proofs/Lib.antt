@@ -1,4 +1,3 @@
-pub mod Divisors
 pub mod Refusals
 pub mod Merging
 pub mod Naming

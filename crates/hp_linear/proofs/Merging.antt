@@ -3,12 +3,13 @@ use Rattle.std.proofs.Common.{◌≡◌, ℕ, ◌<◌, ◌≤◌, Bool, true, fa
 use Rattle.std.proofs.lemmas.Bool.{lt-ltb, le-ltb}
 use Rattle.std.proofs.lemmas.List.{drop_all, take_all}
 use Rattle.hp_math.specs.Rational.{ℚ, whole, eq_ℚ}
+use Rattle.hp_num.specs.Wide.{◌>>=◌}
 use Rattle.hp_model.proofs.Compares.{eq_ℚ-true, eq_ℚ-from}
 use Rattle.hp_base.specs.declared.literal.Name.{Name}
 use Rattle.hp_linear.specs.declared.form.Summand.{Summand}
 use Rattle.hp_base.specs.declared.refusal.Refusal.{Refusal}
 use Rattle.hp_linear.specs.declared.summands.Taken.TheVariants.{Left, Right, Both}
-use Rattle.hp_linear.specs.Steps.{Refusable, ◌>>=◌, behind}
+use Rattle.hp_linear.specs.Steps.{Refusable, behind}
 use Rattle.hp_linear.specs.Forms.{copies, plus_summands, sum_of, unless_zero}
 use Rattle.hp_linear.specs.Answers.{Took}
 use Rattle.hp_linear.proofs.Refusals.{behind_behind}

@@ -10,6 +10,8 @@ use Rattle.hp_math.specs.Rational.{magnitude}
 use Rattle.hp_math.proofs.Whole.{*ℤ_cancel, up-*ℤ, down-*ℤ}
 use Rattle.hp_math.proofs.Parts.{abs-magnitude, magnitude-neg_ℤ, zero_from_num}
 use Rattle.hp_num.proofs.Reduce.{whole_quotient}
+use Rattle.hp_num.specs.Wide.{◌>>=◌}
+use Rattle.hp_num.proofs.Given.{came}
 use Rattle.hp_ast.specs.declared.problem.Atom.{Atom}
 use Rattle.hp_ast.specs.declared.problem.Cmp.{Cmp}
 use Rattle.hp_ast.specs.declared.problem.Cmp.TheVariants.{Le, Lt, Eq, Ne, Ge, Gt}
@@ -25,13 +27,13 @@ use Rattle.hp_model.specs.Sides.{taken}
 use Rattle.hp_linear.specs.declared.form.Summand.{Summand}
 use Rattle.hp_linear.specs.declared.form.Form.{Form}
 use Rattle.hp_linear.specs.declared.wholes.Row.{Row}
-use Rattle.hp_linear.specs.Steps.{Refusable, ◌>>=◌, behind}
+use Rattle.hp_linear.specs.Steps.{Refusable, behind}
 use Rattle.hp_linear.specs.Forms.{lin_of, minus_form}
 use Rattle.hp_linear.specs.Wholes.{denominator_of, lowest_row, one_if_zero, over, row_divisor, row_of, row_over, row_with, scaled_number, scaled_parts, scaled_row, whole_copies}
 use Rattle.hp_linear.specs.Literals.{apart_literals, compared, literals, num_literals, one_literal, row_literal}
 use Rattle.hp_linear.specs.Normal.{AreNormalParts, IsNormal}
 use Rattle.hp_linear.specs.Answers.{Pushed, Written}
-use Rattle.hp_linear.proofs.Refusals.{came, ok_same}
+use Rattle.hp_linear.proofs.Refusals.{ok_same}
 use Rattle.hp_linear.proofs.Rows.{AreDivisors, AreMultiples, IsDenominator, IsDivisor, denominator_gave, lowest_divides, scaled_gave, some_share}
 use Rattle.hp_linear.proofs.Normals.{AreNormal, IsNormalForm, minus_form-normal, term_normal}
 

@@ -5,6 +5,8 @@ use Rattle.std.proofs.lemmas.Bool.{ltb-true, ltb-false}
 use Rattle.hp_math.specs.Rational.{ℚ, whole, neg_ℚ, eq_ℚ}
 use Rattle.hp_math.proofs.Parts.{whole-parts}
 use Rattle.hp_math.proofs.Laws.{neg_ℚ-neg_ℚ}
+use Rattle.hp_num.specs.Wide.{◌>>=◌}
+use Rattle.hp_num.proofs.Given.{came}
 use Rattle.hp_ast.specs.declared.term.Term.{Term, fold-roll-Term, ind-Term, roll-Term, map-Term}
 use Rattle.hp_ast.specs.declared.term.Term.TheOpen.{Term-F}
 use Rattle.hp_base.specs.declared.literal.Name.{Name}
@@ -13,9 +15,9 @@ use Rattle.hp_base.proofs.Words.{numbered}
 use Rattle.hp_model.proofs.Compares.{eq_ℚ-from}
 use Rattle.hp_linear.specs.declared.form.Summand.{Summand}
 use Rattle.hp_linear.specs.declared.form.Form.{Form}
-use Rattle.hp_linear.specs.Steps.{Refusable, ◌>>=◌, behind}
+use Rattle.hp_linear.specs.Steps.{Refusable, behind}
 use Rattle.hp_linear.specs.Forms.{copies, form_step, form_with, lin_of, minus_form, named_form, neg_form, neg_summand, number_form, plus_form, plus_summands, product_of, sum_of, times_form, times_summands, unless_zero, zero_form}
-use Rattle.hp_linear.proofs.Refusals.{came, ok_same}
+use Rattle.hp_linear.proofs.Refusals.{ok_same}
 use Rattle.hp_linear.proofs.Fields.{neg_zero}
 
 -- one of so many constants, at or after a place, with a coefficient that isn't 0

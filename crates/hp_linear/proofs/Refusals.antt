@@ -1,9 +1,10 @@
 -- Computations that may be refused, step by step.
 use Rattle.std.proofs.Common.{◌≡◌, List, [], ◌++◌, Result, Ok, Err, IfOk, refl, sym, ap, subst, append_assoc}
 use Rattle.hp_num.specs.declared.wide.Wide.{Wide as TooWide}
+use Rattle.hp_num.specs.Wide.{◌>>=◌}
 use Rattle.hp_base.specs.declared.refusal.Refusal.{Refusal}
 use Rattle.hp_base.specs.declared.refusal.Refusal.TheVariants.{Wide, Memory}
-use Rattle.hp_linear.specs.Steps.{Refusable, ◌>>=◌, behind, unless_wide}
+use Rattle.hp_linear.specs.Steps.{Refusable, behind, unless_wide}
 use Rattle.hp_linear.specs.Answers.{Answers}
 
 pub behind_nothing : {A : Type 0} (r : Refusable (List A)) → behind [] r ≡ r
@@ -13,11 +14,6 @@ behind_nothing (Err e) = refl
 pub behind_behind : {A : Type 0} (xs ys : List A) (r : Refusable (List A)) → behind xs (behind ys r) ≡ behind (xs ++ ys) r
 behind_behind xs ys (Ok zs) = ap Ok (sym (append_assoc xs ys zs))
 behind_behind xs ys (Err e) = refl
-
--- what a value is where the whole has one
-pub unless_wide_exact : {A : Type 0} (P : A → Type 0) (r : Result A TooWide) (x : A) → IfOk r P → unless_wide r ≡ Ok x → P x
-unless_wide_exact {A} P (Ok y) x h e = subst P (ap (λ (o : Refusable A). elim o [ Ok z ↦ z | Err z ↦ y ]) e) h
-unless_wide_exact P (Err y) x h e = absurd (cc)
 
 -- ---- what calls answer
 pub refused_first : {A B : Type 0} (r : Refusable A) (f : A → Refusable B) (e : Refusal) → Answers r (Err e) → Answers (r >>= f) (Err e)
@@ -43,11 +39,7 @@ answers_exact r (Err Memory) e = tt
 pub ok_same : {A : Type 0} (x y : A) → ◌≡◌ {A = Refusable A} (Ok x) (Ok y) → x ≡ y
 ok_same {A} x y e = ap (λ (o : Refusable A). elim o [ Ok z ↦ z | Err z ↦ x ]) e
 
-pub record Came {A B : Type 0} (r : Refusable A) (f : A → Refusable B) (y : B) : Type 0 where
-  pub value : A
-  pub first : r ≡ Ok value
-  pub rest : f value ≡ Ok y
-
-pub came : {A B : Type 0} (r : Refusable A) (f : A → Refusable B) (y : B) → (r >>= f) ≡ Ok y → Came r f y
-came (Ok x) f y e = record { value = x; first = refl; rest = e }
-came (Err x) f y e = absurd (cc)
+-- an operation on numbers that was not too wide
+pub not_wide : {A : Type 0} (r : Result A TooWide) (x : A) → unless_wide r ≡ Ok x → r ≡ Ok x
+not_wide (Ok y) x e = ap (λ z. Ok z) (ok_same y x e)
+not_wide (Err y) x e = absurd (cc)

@@ -12,9 +12,11 @@ use Rattle.hp_math.proofs.Rational.{ratio-parts, ratio-same, ratio-*}
 use Rattle.hp_math.proofs.Field.{*ℚ-+ℚ}
 use Rattle.hp_num.specs.declared.wide.Wide.{Wide as TooWide}
 use Rattle.std.specs.Int.{IsGcd}
-use Rattle.hp_num.specs.Wide.{times_of}
+use Rattle.hp_num.specs.Wide.{times_of, ◌>>=◌}
 use Rattle.hp_num.proofs.Bits.{Gave, times_gave}
 use Rattle.hp_num.proofs.Reduce.{whole_quotient}
+use Rattle.hp_num.specs.Divisor.{gcd}
+use Rattle.hp_num.proofs.Given.{came}
 use Rattle.hp_base.specs.declared.literal.Part.{Part}
 use Rattle.hp_base.specs.declared.literal.Rel.{Rel}
 use Rattle.hp_base.specs.Truth.{Values, Compares, IsTrueAt, name_value, parts_value}
@@ -23,13 +25,13 @@ use Rattle.hp_linear.specs.declared.form.Summand.{Summand}
 use Rattle.hp_linear.specs.declared.form.Form.{Form}
 use Rattle.hp_linear.specs.declared.wholes.Row.{Row}
 use Rattle.hp_base.specs.declared.refusal.Refusal.TheVariants.{Wide}
-use Rattle.hp_linear.specs.Steps.{◌>>=◌, behind, gcd, unless_wide}
+use Rattle.hp_linear.specs.Steps.{behind, unless_wide}
 use Rattle.hp_linear.specs.Forms.{minus_form}
 use Rattle.hp_linear.specs.Wholes.{denominator_of, lcm_of, lowest_row, multiple_of, one_if_zero, over, parts_divisor, row_divisor, row_of, row_over, row_with, scaled_number, scaled_parts, scaled_row, whole_copies}
 use Rattle.hp_linear.specs.Literals.{compared, row_literal}
 use Rattle.hp_linear.specs.Values.{form_value, summands_value}
-use Rattle.hp_linear.proofs.Divisors.{gcd-is}
-use Rattle.hp_linear.proofs.Refusals.{came, ok_same}
+use Rattle.hp_num.proofs.Divisor.{gcd-is}
+use Rattle.hp_linear.proofs.Refusals.{ok_same}
 use Rattle.hp_linear.proofs.Fields.{factor_out, times_zero}
 use Rattle.hp_linear.proofs.Values.{minus_form-value}
 use Rattle.hp_linear.proofs.Compare.{and_then, difference_compares, moved_compares, multiple_compares, turned}

@@ -4,6 +4,8 @@ use Rattle.std.specs.Prelude.{is_some}
 use Rattle.std.proofs.lemmas.Bool.{and_parts}
 use Rattle.hp_math.specs.Rational.{ℚ, whole, ◌+ℚ◌, ◌-ℚ◌, ◌*ℚ◌, neg_ℚ}
 use Rattle.hp_math.proofs.Field.{+ℚ_zero}
+use Rattle.hp_num.specs.Wide.{◌>>=◌}
+use Rattle.hp_num.proofs.Given.{came}
 use Rattle.hp_ast.specs.declared.term.Term.{Term, fold-roll-Term, ind-Term, roll-Term, map-Term}
 use Rattle.hp_ast.specs.declared.term.Term.TheOpen.{Term-F}
 use Rattle.hp_base.specs.declared.literal.Name.{Name}
@@ -12,11 +14,11 @@ use Rattle.hp_base.specs.Words.{Word, Agrees, number}
 use Rattle.hp_base.proofs.Words.{word_value}
 use Rattle.hp_model.specs.Value.{Names, Functions, value, value_step}
 use Rattle.hp_linear.specs.declared.form.Form.{Form}
-use Rattle.hp_linear.specs.Steps.{Refusable, ◌>>=◌}
+use Rattle.hp_linear.specs.Steps.{Refusable}
 use Rattle.hp_linear.specs.Forms.{copies, form_step, form_with, is_linear, lin_of, linear_step, minus_form, named_form, neg_form, number_form, plus_form, times_form}
 use Rattle.hp_linear.specs.Values.{form_value}
 use Rattle.hp_linear.specs.Laws.{TermsHaveFormValues}
-use Rattle.hp_linear.proofs.Refusals.{came, ok_same}
+use Rattle.hp_linear.proofs.Refusals.{ok_same}
 use Rattle.hp_linear.proofs.Fields.{one_times, zero_plus}
 use Rattle.hp_linear.proofs.Values.{minus_form-value, neg_form-value, plus_form-value, times_form-value}
 

@@ -2,6 +2,8 @@
 use Rattle.std.proofs.Common.{◌≡◌, ◌↔◌, ◌⊎◌, Bool, true, not, List, [], ◌∷◌, Ok, sym, subst, ◌∙◌, inl, inr}
 use Rattle.hp_math.specs.Rational.{ℚ, ◌<ℚ◌, le_ℚ, lt_ℚ, eq_ℚ}
 use Rattle.hp_math.proofs.Field.{le_ℚ-true, lt_ℚ-true}
+use Rattle.hp_num.specs.Wide.{◌>>=◌}
+use Rattle.hp_num.proofs.Given.{came}
 use Rattle.hp_ast.specs.declared.problem.Cmp.{Cmp}
 use Rattle.hp_ast.specs.declared.problem.Cmp.TheVariants.{Le, Lt, Eq, Ne, Ge, Gt}
 use Rattle.hp_base.specs.declared.literal.Rel.{Rel}
@@ -12,13 +14,12 @@ use Rattle.hp_model.specs.Value.{compares}
 use Rattle.hp_model.specs.Sides.{asked, taken}
 use Rattle.hp_model.proofs.Compares.{eq_ℚ-from, eq_ℚ-true, le_ℚ-from, less_differs, lt_ℚ-from, more_differs, not_true, one_less, taken_asks}
 use Rattle.hp_linear.specs.declared.form.Form.{Form}
-use Rattle.hp_linear.specs.Steps.{◌>>=◌}
 use Rattle.hp_linear.specs.Forms.{lin_of}
 use Rattle.hp_linear.specs.Literals.{apart_literals, compared, literals, one_literal}
 use Rattle.hp_linear.specs.Values.{form_value}
 use Rattle.hp_linear.specs.Laws.{LiteralsAreTrueWithAtoms}
 use Rattle.hp_linear.proofs.Compare.{and_then}
-use Rattle.hp_linear.proofs.Refusals.{came, ok_same}
+use Rattle.hp_linear.proofs.Refusals.{ok_same}
 use Rattle.hp_linear.proofs.Rows.{compared_true}
 use Rattle.hp_linear.proofs.Semantics.{terms_have_form_values}
 

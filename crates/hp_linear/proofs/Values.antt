@@ -3,29 +3,25 @@ use Rattle.std.proofs.Common.{◌≡◌, Bool, true, false, cond, nat_lt, pos, u
 use Rattle.std.proofs.lemmas.Bool.{ltb-false}
 use Rattle.hp_math.specs.Rational.{ℚ, whole, ◌+ℚ◌, ◌-ℚ◌, ◌*ℚ◌, neg_ℚ, eq_ℚ}
 use Rattle.hp_math.proofs.Field.{+ℚ_zero, +ℚ_assoc, *ℚ-+ℚ}
-use Rattle.hp_num.specs.Wide.{add_over, mul_over}
-use Rattle.hp_num.proofs.Sums.{add_exact, mul_exact}
+use Rattle.hp_num.specs.Wide.{add_of, mul_of, ◌>>=◌}
+use Rattle.hp_num.proofs.Given.{came, add_gave, mul_gave}
 use Rattle.hp_base.specs.declared.literal.Name.{Name}
 use Rattle.hp_base.specs.Truth.{Values, name_value}
 use Rattle.hp_model.proofs.Compares.{eq_ℚ-true}
 use Rattle.hp_linear.specs.declared.form.Summand.{Summand}
 use Rattle.hp_linear.specs.declared.form.Form.{Form}
-use Rattle.hp_linear.specs.Steps.{Refusable, ◌>>=◌, behind, gcd}
+use Rattle.hp_linear.specs.Steps.{Refusable, behind}
 use Rattle.hp_linear.specs.Forms.{copies, form_with, minus_form, neg_form, neg_summand, plus_form, plus_summands, product_of, sum_of, times_form, times_summands, unless_zero}
 use Rattle.hp_linear.specs.Values.{form_value, summands_value}
-use Rattle.hp_linear.proofs.Divisors.{gcd-is}
-use Rattle.hp_linear.proofs.Refusals.{came, ok_same, unless_wide_exact}
+use Rattle.hp_linear.proofs.Refusals.{ok_same, not_wide}
 use Rattle.hp_linear.proofs.Fields.{factor_out, four, neg_sum, neg_times, neg_zero, sum_times, swap_first, times_zero, zero_plus, zero_times}
 
 -- ---- fractions
 pub sum_exact : (x y s : ℚ) → sum_of x y ≡ Ok s → s ≡ x +ℚ y
-sum_exact x y s e = unless_wide_exact (λ z. z ≡ x +ℚ y) (add_over (gcd x.den y.den) x y) s (add_exact (gcd x.den y.den) x y (gcd-is x.den y.den)) e
+sum_exact x y s e = add_gave x y s (not_wide (add_of x y) s e)
 
 pub product_exact : (x y s : ℚ) → product_of x y ≡ Ok s → s ≡ x *ℚ y
-product_exact x y s e =
-    let h = gcd (unsigned_abs x.num) y.den in
-    let k = gcd (unsigned_abs y.num) x.den in
-    unless_wide_exact (λ z. z ≡ x *ℚ y) (mul_over h k x y) s (mul_exact h k x y (gcd-is (unsigned_abs x.num) y.den) (gcd-is (unsigned_abs y.num) x.den)) e
+product_exact x y s e = mul_gave x y s (not_wide (mul_of x y) s e)
 
 -- ---- summands
 module _ (v : Values) where

@@ -1,21 +1,21 @@
 -- Linear forms: fractions of copies of names, in the order of the names, and a fraction; and the form of a term.
 use Rattle.std.specs.Prelude.{ℕ, Bool, true, false, ◌&&◌, List, [], ◌∷◌, map, Option, Some, None, is_some, Ok, unsigned_abs, pos, if◌then◌else◌, nat_lt}
 use Rattle.hp_math.specs.Rational.{ℚ, whole, neg_ℚ, eq_ℚ}
-use Rattle.hp_num.specs.Wide.{add_over, mul_over}
+use Rattle.hp_num.specs.Wide.{add_of, mul_of, ◌>>=◌}
 use Rattle.hp_ast.specs.declared.term.Term.{Term, fold-Term}
 use Rattle.hp_ast.specs.declared.term.Term.TheOpen.{Term-F}
 use Rattle.hp_base.specs.declared.literal.Name.{Name}
 use Rattle.hp_base.specs.Words.{Word, number}
 use Rattle.hp_linear.specs.declared.form.Summand.{Summand}
 use Rattle.hp_linear.specs.declared.form.Form.{Form}
-use Rattle.hp_linear.specs.Steps.{Refusable, ◌>>=◌, behind, unless_wide, gcd}
+use Rattle.hp_linear.specs.Steps.{Refusable, behind, unless_wide}
 
 -- ---- fractions
 abbrev pub sum_of : ℚ → ℚ → Refusable ℚ
-sum_of x y = unless_wide (add_over (gcd x.den y.den) x y)
+sum_of x y = unless_wide (add_of x y)
 
 abbrev pub product_of : ℚ → ℚ → Refusable ℚ
-product_of x y = unless_wide (mul_over (gcd (unsigned_abs x.num) y.den) (gcd (unsigned_abs y.num) x.den) x y)
+product_of x y = unless_wide (mul_of x y)
 
 -- ---- summands
 abbrev pub copies : Name → ℚ → Summand

@@ -1,6 +1,5 @@
--- What ties forms to the values of terms, and literals to the truth of atoms; and what the common divisor is.
+-- What ties forms to the values of terms, and literals to the truth of atoms.
 use Rattle.std.specs.Prelude.{◌≡◌, ◌↔◌, ℕ, List, true, Ok}
-use Rattle.std.specs.Int.{IsGcd}
 use Rattle.hp_ast.specs.declared.term.Term.{Term}
 use Rattle.hp_ast.specs.declared.problem.Atom.{Atom}
 use Rattle.hp_base.specs.declared.literal.Lit.{Lit}
@@ -10,7 +9,6 @@ use Rattle.hp_model.specs.declared.sides.Side.{Side}
 use Rattle.hp_model.specs.Sides.{asked}
 use Rattle.hp_model.specs.Value.{Names, Functions, value, atom_is_true}
 use Rattle.hp_linear.specs.declared.form.Form.{Form}
-use Rattle.hp_linear.specs.Steps.{gcd}
 use Rattle.hp_linear.specs.Forms.{is_linear, lin_of}
 use Rattle.hp_linear.specs.Literals.{num_literals}
 use Rattle.hp_linear.specs.Values.{form_value}
@@ -25,7 +23,3 @@ abbrev pub LiteralsAreTrueWithAtoms : Type 0
 LiteralsAreTrueWithAtoms = (words : List Word) (v : Values) (env : Names) (functions : Functions) (side : Side) (atom : Atom) (lits : List Lit) → Agrees words v env
     → is_linear words atom.left ≡ true → is_linear words atom.right ≡ true → num_literals words side atom ≡ Ok lits
     → LineIsTrue v lits ↔ (asked side (atom_is_true env functions atom) ≡ true)
-
--- every common divisor of two numbers divides the one that is found, which is itself one
-abbrev pub DivisorsAreGreatest : Type 0
-DivisorsAreGreatest = (a b : ℕ) → IsGcd a b (gcd a b)

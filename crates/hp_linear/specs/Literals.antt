@@ -1,5 +1,6 @@
 -- The literals of an atom over linear terms.
 use Rattle.std.specs.Prelude.{ℕ, List, [], ◌∷◌, neg_ℤ, Ok}
+use Rattle.hp_num.specs.Wide.{◌>>=◌}
 use Rattle.hp_ast.specs.declared.problem.Cmp.{Cmp}
 use Rattle.hp_ast.specs.declared.problem.Cmp.TheVariants.{Le, Lt, Eq, Ne, Ge, Gt}
 use Rattle.hp_ast.specs.declared.problem.Atom.{Atom}
@@ -12,7 +13,7 @@ use Rattle.hp_linear.specs.declared.wholes.Row.{Row}
 use Rattle.hp_base.specs.Words.{Word}
 use Rattle.hp_model.specs.declared.sides.Side.{Side}
 use Rattle.hp_model.specs.Sides.{taken}
-use Rattle.hp_linear.specs.Steps.{Refusable, ◌>>=◌}
+use Rattle.hp_linear.specs.Steps.{Refusable}
 use Rattle.hp_linear.specs.Forms.{lin_of, minus_form}
 use Rattle.hp_linear.specs.Wholes.{row_of}
 

@@ -1,6 +1,6 @@
 //! What ties forms to the values of terms, and literals to the truth of atoms.
 
-ghost use Rattle.hp_linear.specs.Laws.{DivisorsAreGreatest, LiteralsAreTrueWithAtoms, TermsHaveFormValues};
+ghost use Rattle.hp_linear.specs.Laws.{LiteralsAreTrueWithAtoms, TermsHaveFormValues};
 
 /// A linear term has the value of its form, in each environment that gives the words the values of their names.
 pub fn terms_have_form_values()
@@ -11,9 +11,4 @@ pub fn terms_have_form_values()
 /// in the head, or false, in the guard.
 pub fn literals_are_true_with_atoms()
     ensures { LiteralsAreTrueWithAtoms }
-{}
-
-/// The divisor of two numbers that definitions speak of is their greatest common divisor.
-pub fn divisors_are_greatest()
-    ensures { DivisorsAreGreatest }
 {}

@@ -12,7 +12,7 @@ mod summands;
 mod wholes;
 
 pub use atoms::literals;
-pub use laws::{divisors_are_greatest, literals_are_true_with_atoms, terms_have_form_values};
+pub use laws::{literals_are_true_with_atoms, terms_have_form_values};
 
 #[cfg(test)]
 mod tests;

@@ -1,12 +1,12 @@
 //! Sums and products of fractions, and least common multiples, each refused where it is too wide.
 
 ghost use Rattle.std.specs.Prelude.{◌≡◌, ◌<◌, ◌^◌, unsigned_abs};
-ghost use Rattle.hp_linear.specs.Steps.{gcd, unless_wide};
+ghost use Rattle.hp_linear.specs.Steps.{unless_wide};
 ghost use Rattle.hp_linear.specs.Forms.{sum_of, product_of};
 ghost use Rattle.hp_linear.specs.Wholes.{lcm_of, scaled_number};
 
 use hp_base::Refusal;
-use hp_num::{Frac, times};
+use hp_num::{Frac, gcd, times};
 
 /// The sum of two fractions.
 pub fn sum(left: Frac, right: Frac) -> Result<Frac, Refusal>
@@ -35,20 +35,6 @@ pub fn magnitude(number: i128) -> u128
     ensures narrow { result < 2 ^ 127 }
 {
     number.unsigned_abs()
-}
-
-/// The greatest common divisor, `right` where `left` is 0.
-pub fn gcd(left: u128, right: u128) -> u128
-    ensures { result ≡ gcd left right }
-{
-    let mut x = left;
-    let mut y = right;
-    while y != 0 {
-        let rest = x % y;
-        x = y;
-        y = rest;
-    }
-    x
 }
 
 /// The least common multiple of two positive numbers.

@@ -1,5 +1,5 @@
 -- What the formulas of the sum and of the product give, where no step is refused, is the sum and the product.
-use Rattle.std.proofs.Common.{◌≡◌, ℕ, zero, suc, ◌*◌, ◌/◌, ◌<◌, ℤ, pos, ◌+ℤ◌, ◌-ℤ◌, ◌*ℤ◌, ◌<ℤ◌, unsigned_abs, Result, Ok, Err, IfOk, sym, refl, ap, ◌∙◌, arith}
+use Rattle.std.proofs.Common.{◌≡◌, ℕ, zero, suc, ◌*◌, ◌/◌, ◌<◌, ◌^◌, ℤ, pos, ◌+ℤ◌, ◌-ℤ◌, ◌*ℤ◌, ◌<ℤ◌, unsigned_abs, Result, Ok, Err, IfOk, sym, refl, ap, ◌∙◌, arith}
 use Rattle.std.proofs.lemmas.Int.{ints}
 use Rattle.std.proofs.Math.Nat.{mul-pos, pos_of_dvd_of_pos, div-mul_cancel}
 use Rattle.std.specs.Int.{IsGcd}
@@ -24,6 +24,10 @@ pub difference_exact : (d a c b left right : ℤ) → times_of d a ≡ Ok left �
     → IfOk r (λ value. value ≡ (d *ℤ a) -ℤ (c *ℤ b))
 difference_exact d a c b left right s t (Ok x) h = (minus_gave left right x (sym h)).value ∙ (λ i. (times_gave d a left s).value i -ℤ (times_gave c b right t).value i)
 difference_exact d a c b left right s t (Err e) h = tt
+
+pub difference_narrow : (left right : ℤ) (r : Result ℤ Wide) → r ≡ minus_of left right → IfOk r (λ value. unsigned_abs value < 2 ^ 127)
+difference_narrow left right (Ok x) h = (minus_gave left right x (sym h)).narrow
+difference_narrow left right (Err e) h = tt
 
 -- a product of positive numbers
 pub product_pos : (a b r : ℤ) (m n : ℕ) → times_of a b ≡ Ok r → a ≡ pos m → b ≡ pos n → 0 < m → 0 < n → pos 0 <ℤ r

@@ -14,5 +14,5 @@ mod wide;
 pub use frac::Frac;
 pub use list::List;
 pub use text::Text;
-pub use whole::Whole;
+pub use whole::{Whole, gcd};
 pub use wide::{Op, Wide, minus, plus, times, whole_mul_sub};

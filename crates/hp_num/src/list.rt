@@ -1,11 +1,11 @@
-ghost use Rattle.std.specs.Prelude.{◌≡◌, ◌<◌, [], ◌∷◌, ◌++◌, length, slice_get, slice_set, OnOk, OnErr, MatchOption};
+ghost use Rattle.std.specs.Prelude.{◌≡◌, ◌<◌, [], ◌∷◌, ◌++◌, length, slice_get, slice_set, OnOk, OnErr, IfOk, MatchOption};
 
 use std::alloc::{AllocError, Global};
 use std::marker::Model;
 
 /// A growable list that contracts see as the list of its items, whatever its capacity and place in memory.
 ///
-/// Only `push` may want memory. A type may hold lists of itself.
+/// Only `from_slice` and `push` may want memory. A type may hold lists of itself.
 #[derive(Debug, Drop)]
 pub struct List<T> {
     items: Vec<T>,
@@ -66,6 +66,17 @@ impl<T> List<T> {
         ensures { MatchOption result ((self.old ≡ []) × (self.new ≡ [])) (λ last. self.old ≡ self.new ++ last ∷ []) }
     {
         self.items.pop()
+    }
+}
+
+impl<T: Copy> List<T> {
+    /// A list of these items.
+    pub fn from_slice(alloc: Global, items: &[T]) -> Result<List<T>, AllocError>
+        ensures { IfOk result (λ list. list ≡ items.now) }
+    {
+        Ok(List {
+            items: Vec::from_slice(alloc, items)?,
+        })
     }
 }
 

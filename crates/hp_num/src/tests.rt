@@ -93,6 +93,11 @@ fn keeps_whole_numbers_within_their_edges(rt: HostRuntime) {
     );
     assert_eq!(rt; minus(0, LARGEST), Ok(-LARGEST));
     assert_eq!(rt; whole_mul_sub(2, 3, 4, 5), Ok(-14));
+    let two = Whole::new(2);
+    assert_eq!(rt;
+        Whole::mul_sub(two, two, Whole::new(3), two),
+        Ok(Whole::new(-2))
+    );
     assert_eq!(rt;
         whole_mul_sub(2, 3, LONG, LONG),
         Err(Wide {
@@ -136,6 +141,9 @@ fn reduces_before_it_multiplies(rt: HostRuntime) {
         Ok(Frac::new(-2, 3))
     );
     assert_eq!(rt; Frac::new(-2, 3).negated(), Frac::new(2, 3));
+    assert_eq!(rt; Frac::whole(Whole::new(-7)), Frac::new(-7, 1));
+    assert_eq!(rt; gcd(12, 18), 6);
+    assert_eq!(rt; gcd(0, 5), 5);
     assert!(rt; Frac::new(0, 5).is_zero());
 }
 
@@ -168,6 +176,8 @@ fn lists_and_texts_hold_what_was_pushed(rt: HostRuntime) -> Result<(), Fail> {
     assert_eq!(rt; *list.get(1), 9);
     assert_eq!(rt; list.pop(), Some(7));
     assert_eq!(rt; list.as_slice(), [5, 9].as_slice());
+    let again = List::from_slice(rt.alloc(), list.as_slice())?;
+    assert_eq!(rt; again.as_slice(), [5, 9].as_slice());
 
     let mut text = Text::from_slice(rt.alloc(), b"ab")?;
     let copy = text.copy(rt.alloc())?;

@@ -2,11 +2,12 @@
 //!
 //! Fractions and exact rows are made of these, so the arithmetic of their contracts is that of ℤ.
 
-ghost use Rattle.std.specs.Prelude.{◌≡◌, ◌<◌, ◌^◌, ◌-◌, pos, neg_ℤ, ◌≤ℤ◌, int_div, unsigned_abs, ℕ};
+ghost use Rattle.std.specs.Prelude.{◌≡◌, ◌<◌, ◌^◌, ◌-◌, pos, neg_ℤ, ◌≤ℤ◌, int_div, unsigned_abs};
 ghost use Rattle.std.specs.Int.{IsGcd};
-ghost use Rattle.hp_num.specs.Wide.{times_of, plus_of, minus_of};
+ghost use Rattle.hp_num.specs.Divisor.{gcd};
+ghost use Rattle.hp_num.specs.Wide.{times_of, plus_of, minus_of, mul_sub_of};
 
-use crate::wide::{Wide, minus, plus, times};
+use crate::wide::{Wide, minus, plus, times, whole_mul_sub};
 use std::marker::Model;
 
 /// A whole number of magnitude at most 2^127 - 1.
@@ -86,6 +87,15 @@ impl Whole {
         })
     }
 
+    /// `d * a - c * b`, or a `Wide` as of `whole_mul_sub`.
+    pub fn mul_sub(d: Whole, a: Whole, c: Whole, b: Whole) -> Result<Whole, Wide>
+        ensures { result ≡ mul_sub_of d a c b }
+    {
+        Ok(Whole {
+            value: whole_mul_sub(d.value, a.value, c.value, b.value)?,
+        })
+    }
+
     /// The quotient, rounded toward 0.
     pub fn over(self, divisor: u128) -> Whole
         requires positive { 0 < divisor }
@@ -100,7 +110,9 @@ impl Whole {
 
 /// The greatest common divisor, `right` where `left` is 0.
 pub fn gcd(left: u128, right: u128) -> u128
-    ensures { IsGcd left right result }
+    ensures value { result ≡ gcd left right }
+    ensures greatest { IsGcd left right result }
+    ensures narrow { left < 2 ^ 127 → right < 2 ^ 127 → result < 2 ^ 127 }
 {
     let mut x = left;
     let mut y = right;

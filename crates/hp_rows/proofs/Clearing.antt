@@ -1,56 +1,26 @@
--- What the computed steps do: the greatest common divisor, the difference of two lines, and its division.
-use Rattle.std.proofs.Common.{◌≡◌, ℕ, zero, suc, ◌+◌, ◌*◌, ◌/◌, ◌%◌, ◌<◌, inl, inr, ℤ, pos, negsuc, ◌-ℤ◌, ◌*ℤ◌, neg_ℤ, ◌<ℤ◌, refl, sym, ◌∙◌, ap, subst, arith, List, [], ◌∷◌, length, map, true, false, nat_eq, cond, Result, Ok, Err, unsigned_abs}
+-- What the computed steps do: the difference of two lines, and its division.
+use Rattle.std.proofs.Common.{◌≡◌, ℕ, zero, suc, ◌+◌, ◌*◌, ◌/◌, ◌<◌, inl, inr, ℤ, pos, negsuc, ◌-ℤ◌, ◌*ℤ◌, neg_ℤ, ◌<ℤ◌, refl, sym, ◌∙◌, ap, subst, arith, List, [], ◌∷◌, length, map, true, false, nat_eq, cond, Ok, unsigned_abs}
 use Rattle.std.proofs.lemmas.List.{length-map}
 use Rattle.std.proofs.lemmas.Int.{ints}
 use Rattle.std.proofs.lemmas.Bool.{eqb-true, eq-eqb, cases_lt}
-use Rattle.std.proofs.lemmas.Nat.Gcd.{IsGcd-from_zero, IsGcd-from_mod, dvd_trans, dvd_refl, dvd-zero}
-use Rattle.std.proofs.Math.Nat.{pos_of_dvd_of_pos, div-mul_cancel, mod-lt, zero-div}
-use Rattle.std.specs.Int.{IsGcd}
+use Rattle.std.proofs.lemmas.Nat.Gcd.{dvd_trans, dvd_refl, dvd-zero}
+use Rattle.std.proofs.Math.Nat.{pos_of_dvd_of_pos, div-mul_cancel, zero-div}
 use Prim.Native.Nat.{◌∣◌}
 use borrow.Author.Differences.{same_in, neg_is}
 use Rattle.hp_math.proofs.Whole.{up-*ℤ, down-*ℤ, *ℤ_smono}
-use Rattle.hp_num.specs.declared.wide.Wide.{Wide}
-use Rattle.hp_num.specs.Wide.{times_of, minus_of, ◌>>=◌, mul_sub_of}
-use Rattle.hp_num.proofs.Bits.{times_gave, minus_gave}
-use Rattle.hp_rows.specs.Arithmetic.{is_nothing, gcd, gcd_within, over, signed_by}
+use Rattle.hp_num.specs.Wide.{◌>>=◌, mul_sub_of}
+use Rattle.hp_num.proofs.Divisor.{gcd-is}
+use Rattle.hp_num.proofs.Given.{came, mul_sub_gave}
+use Rattle.hp_num.specs.Divisor.{gcd}
+use Rattle.hp_rows.specs.Arithmetic.{is_nothing, over, signed_by}
 use Rattle.hp_rows.specs.Lines.{Line, entry, pivot, subtract, gcd_from, divided, clear, reduce}
 use Rattle.hp_rows.proofs.Lines.{IsStep, swap_z, IsReduced, AreReduced, reduced_step, no_part}
 use Rattle.hp_rows.specs.declared.row.Row.{Row}
 use Rattle.hp_rows.specs.Rows.{IsBelow}
 use Rattle.hp_rows.specs.Points.{HavePivots}
 
--- ---- the greatest common divisor
-pub not_zero : (b : ℕ) → nat_eq b 0 ≡ false → 0 < b
+not_zero : (b : ℕ) → nat_eq b 0 ≡ false → 0 < b
 not_zero b t = elim (cases_lt 0 b) [ inl l ↦ l | inr l ↦ (let z : nat_eq b 0 ≡ true = eq-eqb b 0 (omega arith) in cc) ]
-
-within_is : (fuel a b : ℕ) → b < fuel → IsGcd a b (gcd_within fuel a b)
-unfolding gcd_within
-within_is zero a b h = absurd (omega arith)
-within_is (suc fuel) a b h = (elim (nat_eq b 0) as (λ t. nat_eq b 0 ≡ t → IsGcd a b (cond t a (gcd_within fuel b (a % b)))) [
-  | true ↦ λ t. IsGcd-from_zero a b (eqb-true b 0 t)
-  | false ↦ λ t. IsGcd-from_mod a b _ (within_is fuel b (a % b) (let p : 0 < b = not_zero b t in let q = mod-lt a p in omega arith))
-]) refl
-
-pub gcd_is : (a b : ℕ) → IsGcd a b (gcd a b)
-unfolding gcd
-gcd_is a b = within_is (suc b) a b (omega arith)
-
--- ---- what was computed without an operation that is too wide
-pub record Bound {A B : Type 0} (r : Result A Wide) (f : A → Result B Wide) (y : B) : Type 0 where
-  pub value : A
-  pub first : r ≡ Ok value
-  pub then_ : f value ≡ Ok y
-
-pub bound : {A B : Type 0} (r : Result A Wide) (f : A → Result B Wide) (y : B) → (r >>= f) ≡ Ok y → Bound r f y
-bound (Ok x) f y h = record { value = x; first = refl; then_ = h }
-bound (Err e) f y h = cc
-
-pub mul_sub_gave : (d a c b r : ℤ) → mul_sub_of d a c b ≡ Ok r → r ≡ (d *ℤ a) -ℤ (c *ℤ b)
-unfolding mul_sub_of
-mul_sub_gave d a c b r h =
-    let x = bound (times_of d a) (λ left. times_of c b >>= λ right. minus_of left right) r h in
-    let y = bound (times_of c b) (λ right. minus_of x.value right) r x.then_ in
-    (minus_gave x.value y.value r y.then_).value ∙ (λ i. (times_gave d a x.value x.first).value i -ℤ (times_gave c b y.value y.first).value i)
 
 -- ---- the difference of two lines
 pub record IsDifference (d : ℤ) (row : Line) (c : ℤ) (g out : Line) : Type 0 where
@@ -62,8 +32,8 @@ subtract_gave d [] c [] out l h = (let e : out ≡ [] = cc in rw e (record { siz
 subtract_gave d [] c (g ∷ gs) out l h = absurd (omega arith)
 subtract_gave d (r ∷ rs) c [] out l h = absurd (omega arith)
 subtract_gave d (r ∷ rs) c (g ∷ gs) out l h =
-    let x = bound (mul_sub_of d r c g) (λ z. subtract d rs c gs >>= λ zs. Ok (z ∷ zs)) out h in
-    let y = bound (subtract d rs c gs) (λ zs. Ok (x.value ∷ zs)) out x.then_ in
+    let x = came (mul_sub_of d r c g) (λ z. subtract d rs c gs >>= λ zs. Ok (z ∷ zs)) out h in
+    let y = came (subtract d rs c gs) (λ zs. Ok (x.value ∷ zs)) out x.rest in
     let e : out ≡ x.value ∷ y.value = cc in
     let rest = subtract_gave d rs c gs y.value (omega arith) y.first in
     subst (IsDifference d (r ∷ rs) c (g ∷ gs)) (sym e) (both d r rs c g gs x.value y.value (mul_sub_gave d r c g x.value x.first) rest)
@@ -81,7 +51,7 @@ from_divides : (d : ℕ) (zs : Line) → (gcd_from d zs ∣ d) × ((i : ℕ) →
 from_divides d [] = (dvd_refl d, λ i. dvd-zero d)
 from_divides d (z ∷ zs) =
     let rest = from_divides (gcd d (unsigned_abs z)) zs in
-    let g = gcd_is d (unsigned_abs z) in
+    let g = gcd-is d (unsigned_abs z) in
     (dvd_trans _ rest.0 g.0, at_each d z zs rest.1 (dvd_trans _ rest.0 g.1))
   where
     at_each : (d : ℕ) (z : ℤ) (zs : Line) → ((i : ℕ) → gcd_from (gcd d (unsigned_abs z)) zs ∣ unsigned_abs (entry zs i)) → gcd_from (gcd d (unsigned_abs z)) zs ∣ unsigned_abs z
@@ -183,10 +153,10 @@ clear_gave g row out size p i rp gz h =
         gone = nothing w t;
       }))
       | false ↦ λ t q.
-          (let x = bound (subtract d row c g) (λ line. Ok (divided line)) out q in
+          (let x = came (subtract d row c g) (λ line. Ok (divided line)) out q in
           let e : divided x.value ≡ out = cc in
           let s = subtract_gave d row c g x.value size x.first in
-          let n = gcd_is (unsigned_abs v) (unsigned_abs w) in
+          let n = gcd-is (unsigned_abs v) (unsigned_abs w) in
           let vp = pivot_is g p in
           let dp = share_positive (unsigned_abs v) k vp n.0 in
           let f = from_divides 0 x.value in
@@ -220,9 +190,9 @@ reduce_gave rows w [] [] j row out a p b r h = (let e : row ≡ out = cc in subs
 reduce_gave rows w [] (g ∷ gs) j row out a p b r h = absurd a
 reduce_gave rows w (e ∷ es) [] j row out a p b r h = absurd a
 reduce_gave rows w (e ∷ es) (g ∷ gs) j row out a p b r h =
-    let x = bound (reduce gs row) (λ line. clear g line) out h in
+    let x = came (reduce gs row) (λ line. clear g line) out h in
     let t = reduce_gave rows w es gs j row x.value a.1 p.1 b.1 r x.first in
     let size : length g ≡ length x.value = a.0.line.size ∙ sym t.line.size in
     reduced_step rows w e es g gs j x.value out b a.0 t
     (clear_gave g x.value out size (let z = a.0.line.size in let y = p.0 in omega arith) (suc w + j) t.mine
-    (elim (a.0.line.only j) [ inl q ↦ absurd (no_part j (e ∷ es) b q) | inr q ↦ q ]) x.then_)
+    (elim (a.0.line.only j) [ inl q ↦ absurd (no_part j (e ∷ es) b q) | inr q ↦ q ]) x.rest)

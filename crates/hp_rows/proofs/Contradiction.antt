@@ -5,7 +5,8 @@ use Rattle.std.proofs.lemmas.Bool.{eq-eqb, ne_eqb}
 use Rattle.hp_math.specs.Rational.{ℚ, whole, ◌+ℚ◌, ◌*ℚ◌, ◌-ℚ◌, neg_ℚ, ◌<ℚ◌}
 use Rattle.hp_math.proofs.Whole.{*ℤ-+ℤ, *ℤ_smono, up-*ℤ, down-*ℤ}
 use borrow.Author.Differences.{same_in, neg_is}
-use Rattle.hp_math.proofs.Rational.{ratio-inj, ratio-*, ratio-<_out}
+use Rattle.hp_math.proofs.Rational.{ratio-<_out}
+use Rattle.hp_math.proofs.Laws.{whole-inj, whole-*}
 use Rattle.hp_math.proofs.Field.{by_common1, sum_at, neg_at, fractions, whole_at, whole_times_at, +ℚ_zero, <-write}
 use Rattle.hp_rows.specs.declared.row.Row.{Row}
 use Rattle.hp_rows.specs.Rows.{Values, dot, IsChain, Among, times_at, AreNotNegative, IsContradiction, sum_of, sum_column, sum_bounds, gaps}
@@ -37,14 +38,6 @@ whole-+ x y = sum_at x y 0
 whole-neg : (x : ℤ) → neg_ℚ (whole x) ≡ whole (neg_ℤ x)
 unfolding whole
 whole-neg x = neg_at x 0
-
-whole-* : (x y : ℤ) → whole x *ℚ whole y ≡ whole (x *ℤ y)
-unfolding whole
-whole-* x y = ratio-* x y 1 1 (omega arith) (omega arith)
-
-pub whole-inj : (x y : ℤ) → whole x ≡ whole y → x ≡ y
-unfolding whole
-whole-inj x y e = ratio-inj x y 1 (omega arith) e
 
 whole-pos : (x : ℤ) → whole (pos 0) <ℚ whole x → pos 0 <ℤ x
 unfolding whole

@@ -1,11 +1,12 @@
 -- Sums of products, and the signs of their parts.
-use Rattle.std.proofs.Common.{◌≡◌, ℕ, suc, ◌⊎◌, inl, inr, ℤ, pos, ◌+ℤ◌, ◌-ℤ◌, ◌*ℤ◌, ◌≤ℤ◌, refl, sym, ◌∙◌, ap, subst, arith, List, [], ◌∷◌, length, get_or, map, neg_ℤ}
+use Rattle.std.proofs.Common.{◌≡◌, ℕ, suc, ◌⊎◌, inl, inr, ℤ, pos, ◌+ℤ◌, ◌-ℤ◌, ◌*ℤ◌, ◌≤ℤ◌, refl, sym, ◌∙◌, ap, arith, List, [], ◌∷◌, length, get_or, neg_ℤ}
 use Rattle.std.proofs.lemmas.Int.{ints}
 use borrow.Author.Differences.{same_in, neg_is}
 use Rattle.hp_math.specs.Rational.{ℚ, ratio, whole, ◌+ℚ◌, ◌*ℚ◌, ◌-ℚ◌, ◌≤ℚ◌, ◌<ℚ◌}
 use Rattle.hp_math.proofs.Whole.{*ℤ_assoc, *ℤ-+ℤ, +ℤ-*ℤ, *ℤ_mono_nonneg, up-*ℤ, down-*ℤ}
-use Rattle.hp_math.proofs.Field.{common, by_common1, by_common2, at_one, fractions, whole_at, whole_times_at, ≤ℚ_refl}
+use Rattle.hp_math.proofs.Field.{by_common1, by_common2, at_one, fractions, whole_at, whole_times_at, ≤ℚ_refl}
 use Rattle.hp_math.proofs.Rational.{ratio-inj}
+use Rattle.hp_math.proofs.Laws.{by_common4}
 use Rattle.hp_rows.specs.Rows.{Values, dot}
 
 pub zero-times : (x : ℚ) → whole (pos 0) *ℚ x ≡ whole (pos 0)
@@ -58,21 +59,6 @@ over = by_common2 (λ x y. y <ℚ x → whole (pos 0) <ℚ x -ℚ y) (λ k a b h
 
 pub lt_le : (x y : ℚ) → x <ℚ y → x ≤ℚ y
 lt_le = by_common2 (λ x y. x <ℚ y → x ≤ℚ y) (λ k a b h. omega (arith, fractions))
-
--- ---- four fractions at one denominator
-pub by_common4 : (P : ℚ → ℚ → ℚ → ℚ → Type 0) → ((k : ℕ) (a b c d : ℤ) → P (ratio a (suc k)) (ratio b (suc k)) (ratio c (suc k)) (ratio d (suc k))) → (x y z u : ℚ) → P x y z u
-by_common4 P h x y z u = let m = common (x ∷ y ∷ z ∷ u ∷ []) in four P h x y z u m.below m.nums m.same
-  where
-    four : (P : ℚ → ℚ → ℚ → ℚ → Type 0) → ((k : ℕ) (a b c d : ℤ) → P (ratio a (suc k)) (ratio b (suc k)) (ratio c (suc k)) (ratio d (suc k))) → (x y z u : ℚ) (k : ℕ) (ns : List ℤ)
-        → map (λ a. ratio a (suc k)) ns ≡ x ∷ y ∷ z ∷ u ∷ [] → P x y z u
-    four P h x y z u k [] e = cc
-    four P h x y z u k (a ∷ []) e = cc
-    four P h x y z u k (a ∷ b ∷ []) e = cc
-    four P h x y z u k (a ∷ b ∷ c ∷ []) e = cc
-    four P h x y z u k (a ∷ b ∷ c ∷ d ∷ []) e =
-        let p : ratio a (suc k) ≡ x = cc in let q : ratio b (suc k) ≡ y = cc in let r : ratio c (suc k) ≡ z = cc in let s : ratio d (suc k) ≡ u = cc in
-        subst (λ w. P w y z u) p (subst (λ w. P (ratio a (suc k)) w z u) q (subst (λ w. P (ratio a (suc k)) (ratio b (suc k)) w u) r (subst (λ w. P (ratio a (suc k)) (ratio b (suc k)) (ratio c (suc k)) w) s (h k a b c d))))
-    four P h x y z u k (a ∷ b ∷ c ∷ d ∷ e2 ∷ ns) e = cc
 
 -- ---- one step of an elimination, on the sums
 step_whole : (k d c o r g a o2 r2 g2 : ℤ) → k *ℤ o ≡ (d *ℤ r) -ℤ (c *ℤ g) → k *ℤ o2 ≡ (d *ℤ r2) -ℤ (c *ℤ g2)

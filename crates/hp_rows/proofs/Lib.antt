@@ -12,4 +12,3 @@ mod Moves
 mod Chains
 mod Steps
 mod Sums
-mod Valuations

@@ -10,7 +10,8 @@ use Rattle.hp_rows.specs.Lines.{Line, line_of, pivot, reduce, equations}
 use Rattle.hp_rows.specs.Points.{at_point, point_of, HavePivots}
 use Rattle.hp_rows.specs.Descent.{high, rank, IsUnder, IsState}
 use Rattle.hp_rows.proofs.Lines.{AreReduced}
-use Rattle.hp_rows.proofs.Clearing.{bound, reduce_gave}
+use Rattle.hp_num.proofs.Given.{came}
+use Rattle.hp_rows.proofs.Clearing.{reduce_gave}
 use Rattle.hp_rows.proofs.Start.{starts}
 use Rattle.hp_rows.proofs.Point.{point_meets}
 
@@ -85,8 +86,8 @@ unfolding AreReduced HavePivots
 equations_gave rows w [] [] a c p h = tt
 equations_gave rows w [] (g ∷ gs) a c p h = cc
 equations_gave rows w (e ∷ es) gs a c p h =
-    (let x = bound (equations rows es) (λ hs. reduce hs (line_of rows e) >>= λ g. Ok (g ∷ hs)) gs h in
-    let y = bound (reduce x.value (line_of rows e)) (λ g. Ok (g ∷ x.value)) gs x.then_ in
+    (let x = came (equations rows es) (λ hs. reduce hs (line_of rows e) >>= λ g. Ok (g ∷ hs)) gs h in
+    let y = came (reduce x.value (line_of rows e)) (λ g. Ok (g ∷ x.value)) gs x.rest in
     let s : y.value ∷ x.value ≡ gs = cc in
     let q : HavePivots w (y.value ∷ x.value) = subst (HavePivots w) (sym s) p in
     let more = equations_gave rows w es x.value a c.1 q.1 x.first in
@@ -117,8 +118,8 @@ module _ (rows : List Row) (w : ℕ) (wide : AreWide w rows) where
       → IsState rows w chain lines found point (suc e)
   unfolding IsUnder HavePivots
   pop e chain g lines found point s =
-      (let x = bound (equations rows chain) (λ hs. reduce hs (line_of rows e) >>= λ g. Ok (g ∷ hs)) (g ∷ lines) s.made in
-      let y = bound (reduce x.value (line_of rows e)) (λ g. Ok (g ∷ x.value)) (g ∷ lines) x.then_ in
+      (let x = came (equations rows chain) (λ hs. reduce hs (line_of rows e) >>= λ g. Ok (g ∷ hs)) (g ∷ lines) s.made in
+      let y = came (reduce x.value (line_of rows e)) (λ g. Ok (g ∷ x.value)) (g ∷ lines) x.rest in
       let t : x.value ≡ lines = cc in
       record {
         is_chain = s.is_chain.1;

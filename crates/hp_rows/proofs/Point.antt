@@ -8,13 +8,14 @@ use Rattle.hp_math.proofs.Field.{by_common1, by_common2, by_common3, at_one, fra
 use Rattle.hp_rows.specs.declared.row.Row.{Row}
 use Rattle.hp_rows.specs.Rows.{Values, dot, MeetsAll}
 use Rattle.hp_rows.specs.Lines.{Line, entry, pivot}
-use Rattle.hp_num.specs.Wide.{◌>>=◌}
-use Rattle.hp_rows.specs.Arithmetic.{mul_q, sub_q, div_q}
+use Rattle.hp_num.specs.Wide.{◌>>=◌, mul_of, sub_of, div_of}
 use Rattle.hp_rows.specs.Points.{at_point, rest_of, coordinate, solve, zeros, point_of, HavePivots}
-use Rattle.hp_rows.proofs.Dot.{by_common4, times-zero, zero-times}
+use Rattle.hp_math.proofs.Laws.{by_common4}
+use Rattle.hp_rows.proofs.Dot.{times-zero, zero-times}
 use Rattle.hp_rows.proofs.Lines.{begin, own, dot_none, minus_one, zero_plus, AreClear, AreNothing, AreReduced, meets_chain}
-use Rattle.hp_rows.proofs.Clearing.{bound, pivot_is}
-use Rattle.hp_rows.proofs.Number.{mul_gave, add_gave, div_gave}
+use Rattle.hp_num.proofs.Given.{came, mul_gave, add_gave}
+use Rattle.hp_rows.proofs.Clearing.{pivot_is}
+use Rattle.hp_rows.proofs.Number.{div_gave}
 
 -- ---- a change at one column
 dot_same : (l : List ℤ) (x y : Values) → ((i : ℕ) → y i ≡ x i) → dot l y ≡ dot l x
@@ -71,9 +72,9 @@ rest_gave rest (b ∷ ms) [] a h =
     (let e : a ≡ rest = cc in e ∙ less_none rest ∙ ap (λ q. rest -ℚ q) (sym (ap (λ q. ((whole b *ℚ whole (negsuc 0)) +ℚ q) +ℚ whole b) (dot_none ms) ∙ bound_back b)))
 rest_gave rest [] (x ∷ xs) a h = (let e : a ≡ rest = cc in e ∙ less_none rest)
 rest_gave rest (c ∷ cs) (x ∷ xs) a h =
-    let s = bound (mul_q (whole c) x) (λ y. sub_q rest y >>= λ b. rest_of b cs xs) a h in
-    let t = bound (sub_q rest s.value) (λ b. rest_of b cs xs) a s.then_ in
-    rest_gave t.value cs xs a t.then_
+    let s = came (mul_of (whole c) x) (λ y. sub_of rest y >>= λ b. rest_of b cs xs) a h in
+    let t = came (sub_of rest s.value) (λ b. rest_of b cs xs) a s.rest in
+    rest_gave t.value cs xs a t.rest
     ∙ (λ i. (add_gave rest (neg_ℚ s.value) t.value t.first ∙ ap (λ q. rest -ℚ q) (mul_gave (whole c) x s.value s.first)) i -ℚ products cs xs)
     ∙ less_sum rest (whole c *ℚ x) (dot cs (own (length xs) (at_point xs))) (whole (entry cs (length xs)))
 
@@ -96,11 +97,11 @@ coordinate_gave : (g : Line) (xs : List ℚ) (y : ℚ) → pivot g < length xs �
     → dot g (own (length xs) (at_point (set xs (pivot g) y))) ≡ whole (pos 0)
 unfolding products
 coordinate_gave g xs y h k z e =
-    let s = bound (rest_of (whole (entry g (length xs))) g xs) (λ a. div_q a (whole (entry g (pivot g)))) y e in
+    let s = came (rest_of (whole (entry g (length xs))) g xs) (λ a. div_of a (whole (entry g (pivot g)))) y e in
     let n : ¬ (entry g (pivot g) ≡ pos 0) = λ q. (let u = pivot_is g k in let t : unsigned_abs (entry g (pivot g)) ≡ 0 = ap unsigned_abs q in omega arith) in
     set_own g xs (pivot g) y h z
     ∙ left_over (dot g (own (length xs) (at_point xs))) (whole (entry g (length xs))) (whole (entry g (pivot g)) *ℚ y)
-    (div_gave s.value y (entry g (pivot g)) n s.then_ ∙ rest_gave (whole (entry g (length xs))) g xs s.value s.first)
+    (div_gave s.value y (entry g (pivot g)) n s.rest ∙ rest_gave (whole (entry g (length xs))) g xs s.value s.first)
 
 -- ---- all coordinates
 ZeroAt : List Line → List ℚ → Type 0
@@ -129,10 +130,10 @@ solve_gave : (w : ℕ) (gs : List Line) (xs out : List ℚ) → length xs ≡ w 
 unfolding AreSteps ZeroAt
 solve_gave w [] xs out s a z h = (let e : xs ≡ out = cc in subst (IsSolved w [] xs) e (record { size = s; nothing = tt; kept = λ l c. refl }))
 solve_gave w (g ∷ gs) xs out s a z h =
-    let t = bound (coordinate g xs) (λ y. solve gs (set xs (pivot g) y)) out h in
+    let t = came (coordinate g xs) (λ y. solve gs (set xs (pivot g) y)) out h in
     let p : pivot g < length xs = (let q = a.0 in omega arith) in
     let k : pivot g < length g = (let q = a.0 in let r = a.1 in omega arith) in
-    let more = solve_gave w gs (set xs (pivot g) t.value) out (length-set xs (pivot g) t.value ∙ s) a.3 (apart g gs w xs t.value k a.2 z.1) t.then_ in
+    let more = solve_gave w gs (set xs (pivot g) t.value) out (length-set xs (pivot g) t.value ∙ s) a.3 (apart g gs w xs t.value k a.2 z.1) t.rest in
     record {
       size = more.size;
       nothing = (more.kept g a.2 ∙ ap (λ n. dot g (own n (at_point (set xs (pivot g) t.value)))) (sym s) ∙ coordinate_gave g xs t.value p k z.0 t.first, more.nothing);

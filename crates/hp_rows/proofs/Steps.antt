@@ -20,7 +20,7 @@ use Rattle.hp_rows.specs.declared.descent.Step.TheVariants as step
 use Rattle.hp_rows.specs.Strain.{IsStrainAt}
 use Rattle.hp_rows.specs.Steps.{first_is, IsStateOf, IsPushed, StepTells}
 use Rattle.hp_rows.specs.declared.answer.Place.TheVariants as place
-use Rattle.hp_rows.proofs.Clearing.{bound}
+use Rattle.hp_num.proofs.Given.{came}
 use Rattle.hp_rows.proofs.Chains.{snoc, point_fits}
 use Rattle.hp_rows.proofs.Moves.{rank-hold, rank-pop, rank-push, rank-bound, hold, pop, push, link}
 
@@ -51,8 +51,8 @@ popped_plain rows w wide e chain lines found point at g s t =
 
 no_lines : (rows : List Row) (w e : ℕ) (es : List ℕ) → equations rows (e ∷ es) ≡ Ok [] → ⊥
 no_lines rows w e es h =
-    let x = bound (equations rows es) (λ hs. reduce hs (line_of rows e) >>= λ g. Ok (g ∷ hs)) [] h in
-    let y = bound (reduce x.value (line_of rows e)) (λ g. Ok (g ∷ x.value)) [] x.then_ in
+    let x = came (equations rows es) (λ hs. reduce hs (line_of rows e) >>= λ g. Ok (g ∷ hs)) [] h in
+    let y = came (reduce x.value (line_of rows e)) (λ g. Ok (g ∷ x.value)) [] x.rest in
     cc
 
 pub popped : (rows : List Row) (w : ℕ) → AreWide w rows → (chain init : List ℕ) (lines front : List Line) (found : List ℕ) (point : List ℚ) (at : ℕ)

@@ -2,14 +2,12 @@
 use Rattle.std.proofs.Common.{◌≡◌, ℤ, pos, sym, ◌∙◌, ap, subst, arith, List, [], ◌∷◌, length, true, false, Bool, Ok, refl}
 use Rattle.hp_math.specs.Rational.{ℚ, whole, ◌+ℚ◌, ◌*ℚ◌, ◌≤ℚ◌, ◌<ℚ◌}
 use Rattle.hp_math.proofs.Field.{+ℚ_assoc, +ℚ_zero}
-use Rattle.hp_num.specs.Wide.{◌>>=◌}
+use Rattle.hp_num.specs.Wide.{◌>>=◌, mul_of, add_of}
 use Rattle.hp_rows.specs.declared.row.Row.{Row}
 use Rattle.hp_rows.specs.Rows.{dot}
-use Rattle.hp_rows.specs.Arithmetic.{mul_q, add_q}
 use Rattle.hp_rows.specs.Points.{at_point, left_of}
 use Rattle.hp_rows.specs.Told.{TestTells}
-use Rattle.hp_rows.proofs.Clearing.{bound}
-use Rattle.hp_rows.proofs.Number.{mul_gave, add_gave}
+use Rattle.hp_num.proofs.Given.{came, mul_gave, add_gave}
 use Rattle.hp_rows.proofs.Lines.{zero_plus}
 
 pub left_gave : (sum : ℚ) (cs : List ℤ) (xs : List ℚ) (s : ℚ) → length cs ≡ length xs → left_of sum cs xs ≡ Ok s → s ≡ sum +ℚ dot cs (at_point xs)
@@ -17,9 +15,9 @@ left_gave sum [] [] s l h = (let e : s ≡ sum = cc in e ∙ sym (+ℚ_zero sum)
 left_gave sum [] (x ∷ xs) s l h = absurd (omega arith)
 left_gave sum (c ∷ cs) [] s l h = absurd (omega arith)
 left_gave sum (c ∷ cs) (x ∷ xs) s l h =
-    let a = bound (mul_q (whole c) x) (λ y. add_q sum y >>= λ b. left_of b cs xs) s h in
-    let b = bound (add_q sum a.value) (λ b. left_of b cs xs) s a.then_ in
-    left_gave b.value cs xs s (omega arith) b.then_
+    let a = came (mul_of (whole c) x) (λ y. add_of sum y >>= λ b. left_of b cs xs) s h in
+    let b = came (add_of sum a.value) (λ b. left_of b cs xs) s a.rest in
+    left_gave b.value cs xs s (omega arith) b.rest
     ∙ (λ i. (add_gave sum a.value b.value b.first ∙ ap (λ q. sum +ℚ q) (mul_gave (whole c) x a.value a.first)) i +ℚ dot cs (at_point xs))
     ∙ +ℚ_assoc sum (whole c *ℚ x) (dot cs (at_point xs))
 

@@ -6,7 +6,6 @@ pub mod Points
 pub mod Exact
 pub mod Strain
 pub mod Answers
-pub mod Valuation
 pub mod Descent
 pub mod Told
 pub mod Steps

@@ -1,10 +1,11 @@
 -- Elimination: a line is the coefficients of a row, its bound, and the multipliers of all rows, one after the other.
 use Rattle.std.specs.Prelude.{◌≡◌, ℕ, zero, suc, ◌<◌, ℤ, pos, Result, Ok, if◌then◌else◌, nat_eq, unsigned_abs, List, [], ◌∷◌, ◌++◌, length, get_or, map}
 use Rattle.hp_num.specs.declared.wide.Wide.{Wide}
+use Rattle.hp_num.specs.Divisor.{gcd}
 use Rattle.hp_num.specs.Wide.{◌>>=◌, mul_sub_of}
 use Rattle.hp_rows.specs.declared.row.Row.{Row}
 use Rattle.hp_rows.specs.Rows.{row_at}
-use Rattle.hp_rows.specs.Arithmetic.{is_nothing, gcd, over, signed_by}
+use Rattle.hp_rows.specs.Arithmetic.{is_nothing, over, signed_by}
 
 abbrev pub Line : Type 0
 Line = List ℤ

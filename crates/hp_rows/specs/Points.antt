@@ -2,10 +2,9 @@
 use Rattle.std.specs.Prelude.{◌≡◌, ◌<◌, ℕ, pos, Result, Ok, List, [], ◌∷◌, length, get_or, set, take, replicate}
 use Rattle.hp_math.specs.Rational.{ℚ, whole}
 use Rattle.hp_num.specs.declared.wide.Wide.{Wide}
-use Rattle.hp_num.specs.Wide.{◌>>=◌}
+use Rattle.hp_num.specs.Wide.{◌>>=◌, mul_of, add_of, sub_of, div_of}
 use Rattle.hp_rows.specs.declared.row.Row.{Row}
 use Rattle.hp_rows.specs.Rows.{Values, IsChain}
-use Rattle.hp_rows.specs.Arithmetic.{mul_q, add_q, sub_q, div_q}
 use Rattle.hp_rows.specs.Lines.{Line, entry, pivot, equations}
 
 -- the values of the columns at a point
@@ -16,12 +15,12 @@ at_point xs k = get_or xs k (whole (pos 0))
 abbrev pub rest_of : ℚ → Line → List ℚ → Result ℚ Wide
 rest_of rest cs [] = Ok rest
 rest_of rest [] (x ∷ xs) = Ok rest
-rest_of rest (c ∷ cs) (x ∷ xs) = mul_q (whole c) x >>= λ y. sub_q rest y >>= λ a. rest_of a cs xs
+rest_of rest (c ∷ cs) (x ∷ xs) = mul_of (whole c) x >>= λ y. sub_of rest y >>= λ a. rest_of a cs xs
 
 -- the coordinate at the pivot of g: the bound less the other products, over the entry at the pivot; the point is still
 -- 0 there, so its product, which is 0, takes nothing away
 abbrev pub coordinate : Line → List ℚ → Result ℚ Wide
-coordinate g xs = rest_of (whole (entry g (length xs))) g xs >>= λ a. div_q a (whole (entry g (pivot g)))
+coordinate g xs = rest_of (whole (entry g (length xs))) g xs >>= λ a. div_of a (whole (entry g (pivot g)))
 
 -- the coordinates at the pivots, the last equation's first
 abbrev pub solve : List Line → List ℚ → Result (List ℚ) Wide
@@ -39,12 +38,12 @@ point_of w gs = solve gs (zeros w)
 abbrev pub left_of : ℚ → Line → List ℚ → Result ℚ Wide
 left_of sum cs [] = Ok sum
 left_of sum [] (x ∷ xs) = Ok sum
-left_of sum (c ∷ cs) (x ∷ xs) = mul_q (whole c) x >>= λ y. add_q sum y >>= λ a. left_of a cs xs
+left_of sum (c ∷ cs) (x ∷ xs) = mul_of (whole c) x >>= λ y. add_of sum y >>= λ a. left_of a cs xs
 
 -- numbers over t, in their order
 abbrev pub quotients : ℚ → List ℚ → Result (List ℚ) Wide
 quotients t [] = Ok []
-quotients t (x ∷ xs) = div_q x t >>= λ y. quotients t xs >>= λ ys. Ok (y ∷ ys)
+quotients t (x ∷ xs) = div_of x t >>= λ y. quotients t xs >>= λ ys. Ok (y ∷ ys)
 
 -- the values that a point of homogeneous rows gives: each coordinate before column t, over the one at t
 abbrev pub values_of : ℕ → List ℚ → Result (List ℚ) Wide

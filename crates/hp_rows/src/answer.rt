@@ -1,4 +1,4 @@
-//! What the descent answers, what comes of a chain, and of a sum at its values.
+//! What the descent answers, and what comes of a chain.
 
 use hp_num::{Frac, List, Whole, Wide};
 
@@ -49,19 +49,6 @@ pub enum Located {
     Contradiction(List<Whole>),
     /// A number on the way passes 2^127 - 1.
     Strain(Strain),
-    /// Memory was wanting.
-    Memory,
-}
-
-/// What a sum of coefficient times value comes to at the values that the point of a chain gives.
-#[derive(Drop)]
-pub enum Valued {
-    /// The sum.
-    Sum(Frac),
-    /// A number on the way to the values passes 2^127 - 1.
-    Strain(Strain),
-    /// This operation of the sum passes 2^127 - 1.
-    Wide(Wide),
     /// Memory was wanting.
     Memory,
 }

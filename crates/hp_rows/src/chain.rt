@@ -108,10 +108,7 @@ fn line_of(alloc: Global, rows: &[Row], at: usize) -> Result<List<Whole>, AllocE
 fn row_line(alloc: Global, row: &Row, count: usize, at: usize) -> Result<List<Whole>, AllocError>
     ensures { IfOk result (λ line. line ≡ row.now.coefs ++ row.now.bound ∷ marks count at) }
 {
-    let mut line = List::new(alloc);
-    for coef in row.coefs.as_slice() {
-        line.push(*coef)?;
-    }
+    let mut line = List::from_slice(alloc, row.coefs.as_slice())?;
     line.push(row.bound)?;
     for other in 0..count {
         line.push(if other == at {
@@ -128,12 +125,8 @@ fn times_of(alloc: Global, width: usize, line: &[Whole]) -> Result<List<Whole>, 
     requires { width < length line.now }
     ensures { IfOk result (λ times. times ≡ drop (width + 1) line.now) }
 {
-    let mut times = List::new(alloc);
-    let (_, rest) = line.split_at(width + 1);
-    for entry in rest {
-        times.push(*entry)?;
-    }
-    Ok(times)
+    let (_, times) = line.split_at(width + 1);
+    List::from_slice(alloc, times)
 }
 
 /// The strain on a copy of the chain.
@@ -146,19 +139,8 @@ pub fn strain(
     ensures { IfOk result (λ strain. (strain.chain ≡ chain.now) × (strain.place ≡ place) × (strain.wide ≡ wide)) }
 {
     Ok(Strain {
-        chain: copy_of(alloc, chain)?,
+        chain: List::from_slice(alloc, chain)?,
         place,
         wide,
     })
-}
-
-/// The same row numbers.
-pub fn copy_of(alloc: Global, chain: &[usize]) -> Result<List<usize>, AllocError>
-    ensures { IfOk result (λ copy. copy ≡ chain.now) }
-{
-    let mut copy = List::new(alloc);
-    for row in chain {
-        copy.push(*row)?;
-    }
-    Ok(copy)
 }

@@ -9,7 +9,7 @@ ghost use Rattle.hp_rows.specs.Points.{at_point, coordinate, zeros, left_of, poi
 ghost use Rattle.hp_rows.specs.Told.{Tells};
 ghost use Rattle.hp_rows.specs.Exact.{AreQuotients};
 
-use crate::fractions::{difference, fraction, product, quotient, sum};
+use crate::fractions::product;
 use crate::line::{Fail, pivot};
 use hp_num::{Frac, List, Whole, Wide};
 use std::alloc::{AllocError, Global};
@@ -20,12 +20,12 @@ fn coordinate(g: &[Whole], point: &[Frac]) -> Result<Frac, Wide>
     requires pivot { pivot g.now < length g.now }
     ensures { result ≡ coordinate g.now point.now }
 {
-    let mut rest = fraction(g[point.len()]);
+    let mut rest = Frac::whole(g[point.len()]);
     for at in 0..point.len() {
         let part = product(g[at], point[at])?;
-        rest = difference(rest, part)?;
+        rest = Frac::sub(rest, part)?;
     }
-    quotient(rest, fraction(g[pivot(g)]))
+    Frac::div(rest, Frac::whole(g[pivot(g)]))
 }
 
 /// The point that is 0 at each column.
@@ -34,7 +34,7 @@ fn zeros(alloc: Global, width: usize) -> Result<List<Frac>, AllocError>
 {
     let mut point = List::new(alloc);
     for _at in 0..width {
-        point.push(fraction(Whole::new(0)))?;
+        point.push(Frac::whole(Whole::new(0)))?;
     }
     Ok(point)
 }
@@ -44,10 +44,10 @@ pub fn left_side(coefs: &[Whole], point: &[Frac]) -> Result<Frac, Wide>
     requires { length coefs.now ≡ length point.now }
     ensures { result ≡ left_of (whole (pos 0)) coefs.now point.now }
 {
-    let mut total = fraction(Whole::new(0));
+    let mut total = Frac::whole(Whole::new(0));
     for at in 0..point.len() {
         let part = product(coefs[at], point[at])?;
-        total = sum(total, part)?;
+        total = Frac::add(total, part)?;
     }
     Ok(total)
 }
@@ -88,7 +88,7 @@ pub fn values(alloc: Global, point: &[Frac]) -> Result<List<Frac>, Fail>
     }
     let last = point.len() - 1;
     for at in 0..last {
-        match quotient(point[at], point[last]) {
+        match Frac::div(point[at], point[last]) {
             Ok(value) => {
                 if out.push(value).is_err() {
                     return Err(Fail::Memory);

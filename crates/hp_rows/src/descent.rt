@@ -12,7 +12,7 @@ ghost use Rattle.hp_rows.specs.Answers.{Answers};
 ghost use Rattle.hp_rows.specs.Steps.{IsPushed, IsStrained, IsStateOf, StepTells, first_is};
 
 use crate::answer::{Answer, Place, Strain};
-use crate::chain::{Next, copy_of, next_line, strain};
+use crate::chain::{Next, next_line, strain};
 use crate::coordinates::{left_side, point_of};
 use crate::fractions::is_over;
 use crate::line::Fail;
@@ -136,7 +136,7 @@ fn push(alloc: Global, width: usize, state: &mut State, line: List<Whole>) -> St
         }
         Err(Fail::Memory) => return Step::Memory,
     };
-    match copy_of(alloc, state.chain.as_slice()) {
+    match List::from_slice(alloc, state.chain.as_slice()) {
         Ok(found) => {
             state.found = found;
             state.point = point;

@@ -16,15 +16,13 @@ mod line;
 mod row;
 #[cfg(test)]
 mod tests;
-mod valuation;
 
-pub use answer::{Answer, Located, Place, Strain, Valued};
+pub use answer::{Answer, Located, Place, Strain};
 pub use chain::locate;
-pub use coordinates::{left_side, values};
+pub use coordinates::values;
 pub use descent::descend;
 pub use line::Fail;
 pub use row::{Row, are_wide};
-pub use valuation::value_at;
 
 /// In a combination that contradicts the rows of a chain, the rows of the chain have positive multipliers.
 pub fn chain_is_positive()

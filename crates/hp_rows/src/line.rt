@@ -4,13 +4,12 @@
 //! their greatest common divisor.
 
 ghost use Rattle.std.specs.Prelude.{◌≡◌, ◌<◌, ◌^◌, length, map, IfOk, reverse};
-ghost use Rattle.hp_num.specs.Wide.{mul_sub_of};
 ghost use Rattle.hp_rows.specs.Arithmetic.{over};
 ghost use Rattle.hp_rows.specs.Lines.{pivot, subtract, gcd_from, clear, reduce, LinesFit};
 ghost use Rattle.hp_rows.specs.Told.{Tells};
 
-use crate::division::{absolute, gcd, over, signed_by};
-use hp_num::{List, Whole, Wide};
+use crate::division::{absolute, over, signed_by};
+use hp_num::{List, Whole, Wide, gcd};
 use std::alloc::{AllocError, Global};
 
 /// Why nothing was made: a number that is too wide, or want of memory.
@@ -18,16 +17,6 @@ use std::alloc::{AllocError, Global};
 pub enum Fail {
     Wide(Wide),
     Memory,
-}
-
-/// `d*a - c*b`.
-#[tactic(auto, unfolding(hp_num::specs::Wide::mul_sub_of))]
-fn mul_sub(d: Whole, a: Whole, c: Whole, b: Whole) -> Result<Whole, Wide>
-    ensures { result ≡ mul_sub_of d a c b }
-{
-    let left = d.times(a)?;
-    let right = c.times(b)?;
-    left.minus(right)
 }
 
 /// `d*row - c*g`, entry by entry.
@@ -44,7 +33,7 @@ fn subtract(
 {
     let mut out = List::new(alloc);
     for at in 0..row.len() {
-        match mul_sub(d, row[at], c, g[at]) {
+        match Whole::mul_sub(d, row[at], c, g[at]) {
             Ok(entry) => {
                 if out.push(entry).is_err() {
                     return Err(Fail::Memory);

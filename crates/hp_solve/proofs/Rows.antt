@@ -4,6 +4,7 @@ use Rattle.std.specs.Prelude.{slice_get, slice_index, Ok, Err, unsigned_abs}
 use Rattle.std.specs.List.{All}
 use Rattle.std.specs.List.Sorted.{IsStrictlyIncreasing}
 use Rattle.std.proofs.lemmas.List.Elements.{All-nil, All-cons, All-head, All-tail}
+use Rattle.hp_num.specs.Wide.{◌>>=◌}
 use Rattle.hp_ast.specs.declared.problem.Clause.{Clause}
 use Rattle.hp_ast.specs.declared.problem.Problem.{Problem}
 use Rattle.hp_ast.specs.declared.problem.Sort.{Sort}
@@ -20,7 +21,7 @@ use Rattle.hp_descent.specs.Columns.{IsFit, part_names}
 use Rattle.hp_path.specs.Built.{IsBuilt, IsIdxSide as IsBuiltSide, IsNumOver}
 use Rattle.hp_search.specs.Lines.{AreBuilt}
 use Rattle.hp_cert.specs.Named.{DefIsNamed, GroundIsNamed, IsName, IsNameIfAny, LineIsNamed, LitIsNamed}
-use Rattle.hp_linear.specs.Steps.{Refusable, ◌>>=◌, behind}
+use Rattle.hp_linear.specs.Steps.{Refusable, behind}
 use Rattle.hp_linear.specs.Normal.{AreNormalParts, IsNormalNum}
 use Rattle.hp_linear.proofs.Refusals.{ok_same}
 use Rattle.hp_ground.specs.declared.consts.Consts.{Consts}

@@ -1,12 +1,13 @@
 -- A problem with ground lines has no number that is too wide for them.
 use Rattle.std.proofs.Common.{◌≡◌, ℕ, ◌+◌, ◌≤◌, List, [], ◌∷◌, length, Option, Some, None, refl}
 use Rattle.std.specs.Prelude.{Ok, Err, Bool, true, false, if◌then◌else◌}
+use Rattle.hp_num.specs.Wide.{◌>>=◌}
 use Rattle.hp_ast.specs.declared.problem.Clause.{Clause}
 use Rattle.hp_ast.specs.declared.problem.Problem.{Problem}
 use Rattle.hp_base.specs.declared.literal.Lit.{Lit}
 use Rattle.hp_base.specs.declared.line.Line.{Line}
 use Rattle.hp_base.specs.declared.names.Ground.{Ground}
-use Rattle.hp_linear.specs.Steps.{Refusable, ◌>>=◌, behind}
+use Rattle.hp_linear.specs.Steps.{Refusable, behind}
 use Rattle.hp_ground.specs.declared.consts.Consts.{Consts}
 use Rattle.hp_ground.specs.Ground.{consts_of}
 use Rattle.hp_ground.specs.Lines.{IsGroundOf, clause_literals, first_wide, from_clause, is_wide, lines_from, wide_from}

@@ -8,7 +8,7 @@ use Rattle.hp_num.proofs.frac.reduced.Goals as goal
 use Rattle.hp_num.proofs.frac.reduced.Goals.{After-gcd-divisor}
 
 is_gcd : (c : After-gcd-divisor) → IsGcd (unsigned_abs c.args.top) (unsigned_abs c.args.below) c.gcd-divisor.result
-is_gcd c = gcd_of _ _ _ _ _ c.magnitude.ensures.value c.magnitude-2.ensures.value c.gcd-divisor.ensures
+is_gcd c = gcd_of _ _ _ _ _ c.magnitude.ensures.value c.magnitude-2.ensures.value c.gcd-divisor.ensures.greatest
 
 above : (c : After-gcd-divisor) → 0 < c.gcd-divisor.result
 above c = divisor-pos c.args.top c.args.below _ c.requires (is_gcd c)

@@ -1,7 +1,10 @@
-use Rattle.std.proofs.Common.{sym, ◌∙◌, FitsSigned, rules}
+use Rattle.std.proofs.Common.{ℤ, Result, IfErr, sym, subst, ◌∙◌, FitsSigned, rules}
 use Rattle.std.proofs.lemmas.Int.{to_z-of_z}
 use Rattle.std.specs.Int.{w128}
-use Rattle.hp_num.proofs.Sums.{difference_exact}
+use Rattle.hp_num.specs.declared.wide.Wide.{Wide}
+use Rattle.hp_num.specs.Wide.{Passes}
+use Rattle.hp_num.proofs.Sums.{difference_exact, difference_narrow}
+use Rattle.hp_num.proofs.Refused.{minus_passes}
 use Rattle.hp_num.proofs.wide.whole_mul_sub.Goals as goal
 
 pub returns-clause-exact : goal.returns-clause-exact
@@ -16,3 +19,17 @@ returns-clause-exact c =
     let t = simp to_z-of_z at (sym c.times-2.ensures ∙ c.in_ok-right.was) in
     let e = simp to_z-of_z at c.minus.ensures in
     difference_exact c.args.d c.args.a c.args.c c.args.b c.in_ok-left.left c.in_ok-right.right s t c.minus.result e
+
+pub returns-clause-narrow : goal.returns-clause-narrow
+returns-clause-narrow c =
+    let f : FitsSigned w128 c.in_ok-left.left = search rules in
+    let g : FitsSigned w128 c.in_ok-right.right = search rules in
+    let e = simp to_z-of_z at c.minus.ensures in
+    difference_narrow c.in_ok-left.left c.in_ok-right.right c.minus.result e
+
+pub returns-clause-passes : goal.returns-clause-passes
+returns-clause-passes c =
+    let f : FitsSigned w128 c.in_ok-left.left = search rules in
+    let g : FitsSigned w128 c.in_ok-right.right = search rules in
+    let e = simp to_z-of_z at c.minus.ensures in
+    subst (λ (r : Result ℤ Wide). IfErr r Passes) (sym e) (minus_passes c.in_ok-left.left c.in_ok-right.right)

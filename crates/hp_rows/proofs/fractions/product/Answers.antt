@@ -1,7 +1,4 @@
-use Rattle.hp_rows.specs.Arithmetic.{mul_q}
-use Rattle.hp_rows.proofs.Clearing.{gcd_is}
 use Rattle.hp_rows.proofs.fractions.product.Goals as goal
 
 pub returns : goal.returns
-unfolding mul_q
-returns c = rw c.fraction.ensures at (c.mul.ensures.formula _ _ (gcd_is _ _) (gcd_is _ _))
+returns c = rw c.whole.ensures at c.mul.ensures.formula

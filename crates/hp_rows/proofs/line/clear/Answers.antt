@@ -1,6 +1,7 @@
 use Rattle.std.proofs.Common.{rules, ◌≡◌, ◌<◌, Ok, pos, length, ap, ◌∙◌, sym, subst, false, unsigned_abs, map}
 use Rattle.std.proofs.lemmas.List.{get_or_read}
-use Rattle.hp_rows.specs.Arithmetic.{is_nothing, gcd, over, signed_by}
+use Rattle.hp_num.specs.Divisor.{gcd}
+use Rattle.hp_rows.specs.Arithmetic.{is_nothing, over, signed_by}
 use Rattle.hp_rows.specs.Lines.{entry, pivot, subtract, gcd_from}
 use Rattle.hp_rows.proofs.Clearing.{cleared}
 use Rattle.hp_rows.proofs.line.clear.Goals as goal
