@@ -9,8 +9,8 @@ use Rattle.hp_read.specs.declared.counts.Counts.{Counts}
 use Rattle.hp_read.specs.Counts.{counts_of, nothing_counted, new_atom, ends_atom, count_other, count_sign, count_word, count}
 use Rattle.hp_read.specs.Machine.{◌and_then◌, runs}
 use Rattle.hp_read.specs.Bodies.{Separated, one, more}
-use Rattle.hp_read.proofs.Machines.{runs_on}
-use Rattle.hp_roundtrip.proofs.Counting.{runs_split, Follows, IsOther, other_runs, comma_other}
+use Rattle.hp_read.proofs.Machines.{runs_on, runs_split}
+use Rattle.hp_roundtrip.proofs.Counting.{Follows, IsOther, other_runs, comma_other}
 
 -- ---- words that end an atom
 abbrev pub IsEnd : Kind → Type 0

@@ -1,6 +1,6 @@
 use Rattle.std.proofs.Common.{◌≡◌, ◌-◌, length}
 use Rattle.hp_read.specs.Printed.{IsPrinting}
-use Rattle.hp_read.proofs.transcript.transcribe.Given as goal
+use Rattle.hp_read.proofs.transcript.print_tokens.Given as goal
 
 abbrev pub invariant-loop-out : goal.invariant-loop-out
 invariant-loop-out l = record {
