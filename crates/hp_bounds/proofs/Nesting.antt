@@ -1,13 +1,13 @@
 -- A term nests no deeper than the signs and the open parentheses of its tokens allow: each sign between two parts makes a term one
 -- deeper, and each pair of parentheses at most three, by an application, a factor before it and a sign in front.
-use Rattle.std.proofs.Common.{◌≡◌, ℕ, ◌+◌, ◌*◌, ◌<◌, ◌≤◌, Bool, true, false, List, [], ◌∷◌, ◌++◌, map, Option, Some, None, refl, sym, ap, subst, ◌∙◌, arith}
+use Rattle.std.proofs.Common.{◌≡◌, ℕ, ◌+◌, ◌*◌, ◌<◌, ◌≤◌, true, false, List, [], ◌∷◌, ◌++◌, map, Some, refl, sym, ap, subst, ◌∙◌, arith}
 use Rattle.std.specs.Prelude.{max, if◌then◌else◌}
 use Rattle.hp_math.specs.Rational.{ℚ}
 use Rattle.hp_ast.specs.declared.term.Term.{Term, fold-roll-Term}
 use Rattle.hp_ast.specs.declared.term.Term.TheOpen.{Term-F}
 use Rattle.hp_text.specs.declared.token.Kind.TheVariants as kinds
 use Rattle.hp_read.specs.declared.symbol.Symbol.{Symbol as Token}
-use Rattle.hp_read.specs.declared.symbol.Symbol.TheVariants.{Word as word, Name as name, Numeral as numeral}
+use Rattle.hp_read.specs.declared.symbol.Symbol.TheVariants.{Word as word}
 use Rattle.hp_read.specs.Token.{same}
 use Rattle.hp_read.specs.declared.counts.Counts.{Counts}
 use Rattle.hp_read.specs.Counts.{counts_of, one_sign, one_closed, behind_part, inside, ends_atom, count_other, count_sign, count_word, count}
@@ -15,7 +15,7 @@ use Rattle.hp_read.specs.Machine.{runs}
 use Rattle.hp_read.specs.Tree.{number_of, null, named, apply, add, sub, neg, scale}
 use Rattle.hp_read.specs.Grammar.{SpellsNumber, SpellsTerm, SpellsPart, SpellsFactor, SpellsTerms, whole, fraction, part, minus, sum, difference, number, product, factor, single, call, nothing, group, first, more}
 use Rattle.hp_read.proofs.Machines.{bound, runs_split}
-use Rattle.hp_bounds.specs.Depth.{deepest, depth_step, depth}
+use Rattle.hp_bounds.specs.Depth.{deepest, depth_step, depth, too_deep}
 use Rattle.hp_bounds.proofs.Counted.{IsBounded, Steps, sign_steps, open_steps, minus_steps, runs_bounded, IsCounted}
 
 -- ---- how deep trees are
@@ -196,7 +196,7 @@ mutual
       }
 
 -- 195 for the parentheses and 1,023 for the signs
-pub shallow_term : (u : List Token) (t : Term) → SpellsTerm u t → IsCounted u → depth t < 1300
+pub shallow_term : (u : List Token) (t : Term) → SpellsTerm u t → IsCounted u → depth t < too_deep
 shallow_term u t h i =
     let m = term_measured u t h i.from i.to i.bounded i.goes in
     let b = runs_bounded u i.from i.to i.bounded i.goes in

@@ -26,9 +26,13 @@ depth_step (Term-F.Scale q inner) = inner + 1
 abbrev pub depth : Term → ℕ
 depth = fold-Term ℕ depth_step
 
--- both sides are less than 1,300 deep, and so are all their parts
+-- the depth that no term of a text has
+abbrev pub too_deep : ℕ
+too_deep = 1300
+
+-- both sides are less deep, and so are all their parts
 abbrev pub IsShallowAtom : Atom → Type 0
-IsShallowAtom atom = (depth atom.left < 1300) × (depth atom.right < 1300)
+IsShallowAtom atom = (depth atom.left < too_deep) × (depth atom.right < too_deep)
 
 pub record IsShallowClause (clause : Clause) : Type 0 where
   pub guard : All IsShallowAtom clause.guard
