@@ -4,13 +4,13 @@ use Rattle.std.specs.Prelude.{if◌then◌else◌, nat_lt}
 use Rattle.std.proofs.lemmas.Bool.{ltb-true}
 use Rattle.hp_text.specs.declared.token.Kind.{Kind}
 use Rattle.hp_text.specs.declared.token.Kind.TheVariants as kinds
-use Rattle.hp_read.specs.declared.symbol.Symbol.{Symbol as Token}
-use Rattle.hp_read.specs.declared.symbol.Symbol.TheVariants.{Word as word, Name as name, Numeral as numeral}
-use Rattle.hp_read.specs.Token.{same}
-use Rattle.hp_read.specs.declared.counts.Counts.{Counts}
-use Rattle.hp_read.specs.Counts.{counts_of, one_sign, one_open, one_closed, behind_part, inside, new_atom, ends_atom, count_other, count_sign, count_word, count}
-use Rattle.hp_read.specs.Machine.{runs}
-use Rattle.hp_read.proofs.Machines.{bound, runs_split}
+use Rattle.hp_grammar.specs.declared.symbol.Symbol.{Symbol as Token}
+use Rattle.hp_grammar.specs.declared.symbol.Symbol.TheVariants.{Word as word, Name as name, Numeral as numeral}
+use Rattle.hp_grammar.specs.Token.{same}
+use Rattle.hp_grammar.specs.declared.counts.Counts.{Counts}
+use Rattle.hp_grammar.specs.Counts.{counts_of, one_sign, one_open, one_closed, behind_part, inside, new_atom, ends_atom, count_other, count_sign, count_word, count}
+use Rattle.hp_grammar.specs.Runs.{runs}
+use Rattle.hp_grammar.proofs.Machines.{bound, runs_split}
 
 -- counts that a text within the limits may have come to
 pub record IsBounded (c : Counts) : Type 0 where

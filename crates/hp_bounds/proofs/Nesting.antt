@@ -6,15 +6,15 @@ use Rattle.hp_math.specs.Rational.{ℚ}
 use Rattle.hp_ast.specs.declared.term.Term.{Term, fold-roll-Term}
 use Rattle.hp_ast.specs.declared.term.Term.TheOpen.{Term-F}
 use Rattle.hp_text.specs.declared.token.Kind.TheVariants as kinds
-use Rattle.hp_read.specs.declared.symbol.Symbol.{Symbol as Token}
-use Rattle.hp_read.specs.declared.symbol.Symbol.TheVariants.{Word as word}
-use Rattle.hp_read.specs.Token.{same}
-use Rattle.hp_read.specs.declared.counts.Counts.{Counts}
-use Rattle.hp_read.specs.Counts.{counts_of, one_sign, one_closed, behind_part, inside, ends_atom, count_other, count_sign, count_word, count}
-use Rattle.hp_read.specs.Machine.{runs}
-use Rattle.hp_read.specs.Tree.{number_of, null, named, apply, add, sub, neg, scale}
-use Rattle.hp_read.specs.Grammar.{SpellsNumber, SpellsTerm, SpellsPart, SpellsFactor, SpellsTerms, whole, fraction, part, minus, sum, difference, number, product, factor, single, call, nothing, group, first, more}
-use Rattle.hp_read.proofs.Machines.{bound, runs_split}
+use Rattle.hp_grammar.specs.declared.symbol.Symbol.{Symbol as Token}
+use Rattle.hp_grammar.specs.declared.symbol.Symbol.TheVariants.{Word as word}
+use Rattle.hp_grammar.specs.Token.{same}
+use Rattle.hp_grammar.specs.declared.counts.Counts.{Counts}
+use Rattle.hp_grammar.specs.Counts.{counts_of, one_sign, one_closed, behind_part, inside, ends_atom, count_other, count_sign, count_word, count}
+use Rattle.hp_grammar.specs.Runs.{runs}
+use Rattle.hp_grammar.specs.Tree.{number_of, null, named, apply, add, sub, neg, scale}
+use Rattle.hp_grammar.specs.Grammar.{SpellsNumber, SpellsTerm, SpellsPart, SpellsFactor, SpellsTerms, whole, fraction, part, minus, sum, difference, number, product, factor, single, call, nothing, group, first, more}
+use Rattle.hp_grammar.proofs.Machines.{bound, runs_split}
 use Rattle.hp_bounds.specs.Depth.{deepest, depth_step, depth, too_deep}
 use Rattle.hp_bounds.proofs.Counted.{IsBounded, Steps, sign_steps, open_steps, minus_steps, runs_bounded, IsCounted}
 

@@ -7,13 +7,13 @@ use Rattle.hp_ast.specs.declared.problem.Clause.{Clause}
 use Rattle.hp_ast.specs.declared.problem.Problem.{Problem}
 use Rattle.hp_text.specs.declared.token.Kind.{Kind}
 use Rattle.hp_text.specs.declared.token.Kind.TheVariants as kinds
-use Rattle.hp_read.specs.declared.symbol.Symbol.{Symbol as Token}
-use Rattle.hp_read.specs.declared.symbol.Symbol.TheVariants.{Word as word}
-use Rattle.hp_read.specs.Bodies.{SpellsAtom, SpellsAtoms, one, more, SpellsGuard, none, some, SpellsHead, empty, atoms, SpellsBody, body}
-use Rattle.hp_read.specs.Counts.{nothing_counted}
-use Rattle.hp_read.specs.Problems.{SpellsItem, clause, query, SpellsItems, SpellsProblem, problem}
-use Rattle.hp_read.specs.Problems as grammar
-use Rattle.hp_read.specs.Symbols.{symbols}
+use Rattle.hp_grammar.specs.declared.symbol.Symbol.{Symbol as Token}
+use Rattle.hp_grammar.specs.declared.symbol.Symbol.TheVariants.{Word as word}
+use Rattle.hp_grammar.specs.Bodies.{SpellsAtom, SpellsAtoms, one, more, SpellsGuard, none, some, SpellsHead, empty, atoms, SpellsBody, body}
+use Rattle.hp_grammar.specs.Counts.{nothing_counted}
+use Rattle.hp_grammar.specs.Problems.{SpellsItem, clause, query, SpellsItems, SpellsProblem, problem}
+use Rattle.hp_grammar.specs.Problems as grammar
+use Rattle.hp_grammar.specs.Symbols.{symbols}
 use Rattle.hp_bounds.specs.Depth.{IsShallowAtom, IsShallowClause, IsShallow}
 use Rattle.hp_bounds.specs.Laws.{ShallowTerms}
 use Rattle.hp_bounds.proofs.Counted.{IsCounted, left_counted, right_counted, rest_counted, behind_counted}

@@ -1,5 +1,5 @@
 -- A reader that gives its clauses up to a text comes to what a reader of the whole comes to.
-use Rattle.std.proofs.Common.{◌≡◌, ◌≢◌, ℕ, Bool, true, false, List, [], ◌∷◌, ◌++◌, length, Option, Some, None, Result, Ok, Err, IfOk, IfErr, OnOk, refl, sym, ap, subst, ◌∙◌, append_assoc, append-nil, ◌⊎◌, inl, inr}
+use Rattle.std.proofs.Common.{◌≡◌, ◌≢◌, ℕ, Bool, true, false, List, [], ◌++◌, length, Option, Some, None, Result, Ok, Err, IfOk, IfErr, OnOk, refl, sym, ap, subst, ◌∙◌, append_assoc, append-nil, ◌⊎◌, inl, inr}
 use Rattle.std.proofs.lemmas.Grind.{flat_map-append}
 use Rattle.std.specs.Prelude.{if◌then◌else◌}
 use Rattle.std.specs.Result.{IsErrAnd}
@@ -10,18 +10,20 @@ use Rattle.hp_text.specs.declared.token.Kind.TheVariants as kinds
 use Rattle.hp_text.specs.declared.token.Token.{Token as Placed}
 use Rattle.hp_text.specs.declared.token.TokenErr.{TokenErr}
 use Rattle.hp_text.specs.Tokens.{next_from}
-use Rattle.hp_read.specs.declared.fault.ReadErr.{ReadErr}
-use Rattle.hp_read.specs.declared.fault.ReadErr.TheVariants.{Syntax, LongNumeral, Deep, Memory}
-use Rattle.hp_read.specs.declared.counts.Counts.{Counts}
+use Rattle.hp_grammar.specs.declared.fault.ReadErr.{ReadErr}
+use Rattle.hp_grammar.specs.declared.fault.ReadErr.TheVariants.{Syntax, LongNumeral, Deep, Memory}
+use Rattle.hp_grammar.specs.declared.counts.Counts.{Counts}
 use Rattle.hp_read.specs.declared.stage.Progress.{Progress}
 use Rattle.hp_read.specs.declared.stage.Stage.{Stage}
 use Rattle.hp_read.specs.declared.stage.Stage.TheVariants.{Whole}
-use Rattle.hp_read.specs.Causes.{StopsAt, fault_of}
-use Rattle.hp_read.specs.Counts.{count, nothing_counted}
-use Rattle.hp_read.specs.Problems.{problem_of}
-use Rattle.hp_read.specs.Symbols.{symbol_of}
-use Rattle.hp_read.specs.Spells.{Spells, IsFault, IsReading}
-use Rattle.hp_read.specs.Token.{Token}
+use Rattle.hp_read.specs.Causes.{StopsAt}
+use Rattle.hp_grammar.specs.Spells.{fault_of}
+use Rattle.hp_grammar.specs.Counts.{count, nothing_counted}
+use Rattle.hp_grammar.specs.Problems.{problem_of}
+use Rattle.hp_grammar.specs.Symbols.{symbol_of}
+use Rattle.hp_grammar.specs.Spells.{Spells, IsFault}
+use Rattle.hp_read.specs.Reading.{IsReading}
+use Rattle.hp_grammar.specs.declared.symbol.Symbol.{Symbol as Token}
 use Rattle.hp_read.specs.Top.{at, started, top_step, top_end, is_whole}
 use Rattle.hp_read.specs.Printed.{SpellsAsPrinted, with_before, resumed, HasClause, IsHeld, HasLines, IsPrinting, Holds, Follows, GivesUp}
 use Rattle.hp_read.proofs.Bytes.{reading_starts, reading_goes, misplaced, past_limit, no_token_here, unfinished, spelled}

@@ -9,13 +9,13 @@ ghost use Rattle.hp_text.specs.Tokens.{next_from};
 ghost use Rattle.hp_text.specs.Placed.{IsPlaced};
 ghost use Rattle.hp_text.specs.declared.token.Kind.TheVariants.{End};
 ghost use Rattle.hp_read.specs.Printed.{SpellsAsPrinted, IsPrinting, Follows, GivesUp};
-ghost use Rattle.hp_read.specs.Spells.{Spells, IsFault};
-ghost use Rattle.hp_read.specs.declared.fault.ReadErr.TheVariants.{Memory};
+ghost use Rattle.hp_grammar.specs.Spells.{Spells, IsFault};
+ghost use Rattle.hp_grammar.specs.declared.fault.ReadErr.TheVariants.{Memory};
 
-use crate::fault::ReadErr;
 use crate::reader::Reading;
 use crate::stage::Stage;
 use hp_ast::{Problem, put_clauses, put_heading};
+use hp_grammar::ReadErr;
 use hp_num::{List, Text};
 use hp_text::{Cursor, Kind, Token};
 use std::alloc::{AllocError, Global};

@@ -2,12 +2,12 @@
 use Rattle.std.proofs.Common.{◌≡◌, ℕ, List, Result, Ok, Err, IfOk, subst, sym}
 use Rattle.hp_ast.specs.declared.problem.Problem.{Problem}
 use Rattle.hp_ast.specs.Printing.{problem_text}
-use Rattle.hp_read.specs.declared.symbol.Symbol.{Symbol as Token}
-use Rattle.hp_read.specs.Faults.{IsWithin}
-use Rattle.hp_read.specs.Problems.{SpellsProblem}
-use Rattle.hp_read.specs.declared.fault.ReadErr.{ReadErr}
+use Rattle.hp_grammar.specs.declared.symbol.Symbol.{Symbol as Token}
+use Rattle.hp_grammar.specs.Faults.{IsWithin}
+use Rattle.hp_grammar.specs.Problems.{SpellsProblem}
+use Rattle.hp_grammar.specs.declared.fault.ReadErr.{ReadErr}
 use Rattle.hp_read.specs.Printed.{SpellsAsPrinted}
-use Rattle.hp_read.specs.Spells.{Spells}
+use Rattle.hp_grammar.specs.Spells.{Spells}
 use Rattle.hp_roundtrip.specs.Law.{PrintedTextSpells, Reprints}
 use Rattle.hp_roundtrip.proofs.ProblemsCut.{problem_cut}
 use Rattle.hp_roundtrip.proofs.Spelled.{spelled_by_tokens}
