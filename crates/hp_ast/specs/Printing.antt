@@ -124,7 +124,4 @@ abbrev pub clauses_text : List Clause → List ℕ
 clauses_text clauses = flat_map (λ clause. line (clause_text clause)) clauses
 
 abbrev pub problem_text : Problem → List ℕ
-problem_text problem =
-    line (codes "profile " ++ decimal problem.profile ++ codes ";")
-    ++ flat_map (λ decl. line (decl_text decl)) problem.decls
-    ++ flat_map (λ clause. line (clause_text clause)) problem.clauses
+problem_text problem = heading_text problem ++ clauses_text problem.clauses

@@ -7,11 +7,11 @@ use Rattle.hp_ast.specs.declared.problem.Clause.{Clause}
 use Rattle.hp_ast.specs.declared.problem.Problem.{Problem}
 use Rattle.hp_text.specs.declared.token.Kind.{Kind}
 use Rattle.hp_text.specs.declared.token.Kind.TheVariants as kinds
-use Rattle.hp_read.specs.declared.symbol.Symbol.{Symbol as Token}
-use Rattle.hp_read.specs.declared.symbol.Symbol.TheVariants.{Word as word}
-use Rattle.hp_read.specs.Bodies.{SpellsAtom, SpellsAtoms, one, more, SpellsGuard, none, some, SpellsHead, empty, atoms, SpellsBody, body}
-use Rattle.hp_read.specs.Problems.{SpellsItem, clause, query, SpellsItems, SpellsProblem, problem}
-use Rattle.hp_read.specs.Problems as grammar
+use Rattle.hp_grammar.specs.declared.symbol.Symbol.{Symbol as Token}
+use Rattle.hp_grammar.specs.declared.symbol.Symbol.TheVariants.{Word as word}
+use Rattle.hp_grammar.specs.Bodies.{SpellsAtom, SpellsAtoms, one, more, SpellsGuard, none, some, SpellsHead, empty, atoms, SpellsBody, body}
+use Rattle.hp_grammar.specs.Problems.{SpellsItem, clause, query, SpellsItems, SpellsProblem, problem}
+use Rattle.hp_grammar.specs.Problems as grammar
 use Rattle.hp_norm.specs.Forms.{weight}
 use Rattle.hp_norm.specs.Literals.{IsLightAtom, IsLightClause, IsLight}
 use Rattle.hp_bounds.proofs.Loads.{load, load-append, load-between, term_carried}

@@ -2,7 +2,7 @@
 use Rattle.std.proofs.Common.{ℕ, ◌*◌, ◌^◌, ◌<◌, ◌≤◌, length, arith, lit<}
 use Rattle.std.proofs.Math.Nat.{mul-le-mul_right}
 use Rattle.std.proofs.lemmas.List.{length-map}
-use Rattle.hp_read.specs.Symbols.{symbol_of, symbols}
+use Rattle.hp_grammar.specs.Symbols.{symbol_of, symbols}
 use Rattle.hp_bounds.specs.Laws.{FewItems, LightNumbers}
 use Rattle.hp_bounds.proofs.Loads.{load}
 use Rattle.hp_bounds.proofs.Tokens.{tokens_fit, tokens_carry}

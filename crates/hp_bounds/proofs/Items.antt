@@ -7,13 +7,13 @@ use Rattle.hp_ast.specs.declared.problem.Decl.TheVariants.{Const}
 use Rattle.hp_ast.specs.declared.problem.Problem.{Problem}
 use Rattle.hp_text.specs.declared.token.Kind.{Kind}
 use Rattle.hp_text.specs.declared.token.Kind.TheVariants as kinds
-use Rattle.hp_read.specs.declared.symbol.Symbol.{Symbol as Token}
-use Rattle.hp_read.specs.declared.symbol.Symbol.TheVariants.{Word as word}
-use Rattle.hp_read.specs.Bodies.{Separated, one, more}
-use Rattle.hp_read.specs.Declarations as lines
-use Rattle.hp_read.specs.Declarations.{SpellsName, SpellsConstants}
-use Rattle.hp_read.specs.Problems.{SpellsDeclaration, constants, function, SpellsItem, clause, query, SpellsDeclarations, SpellsItems, SpellsProblem, problem}
-use Rattle.hp_read.specs.Problems as grammar
+use Rattle.hp_grammar.specs.declared.symbol.Symbol.{Symbol as Token}
+use Rattle.hp_grammar.specs.declared.symbol.Symbol.TheVariants.{Word as word}
+use Rattle.hp_grammar.specs.Bodies.{Separated, one, more}
+use Rattle.hp_grammar.specs.Declarations as lines
+use Rattle.hp_grammar.specs.Declarations.{SpellsName, SpellsConstants}
+use Rattle.hp_grammar.specs.Problems.{SpellsDeclaration, constants, function, SpellsItem, clause, query, SpellsDeclarations, SpellsItems, SpellsProblem, problem}
+use Rattle.hp_grammar.specs.Problems as grammar
 
 -- a list that a sign lies between has at most one item more than tokens
 few_between : {A : Type 0} (Spells : List Token → A → Type 0) (sign : Kind) (u : List Token) (xs : List A) → Separated Spells sign u xs → length xs ≤ length u + 1

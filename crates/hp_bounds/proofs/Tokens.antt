@@ -7,7 +7,7 @@ use Rattle.hp_text.specs.Lexes.{Passes, IsSaid, said_by, said}
 use Rattle.hp_text.specs.Placed.{IsPlaced, text_of}
 use Rattle.hp_text.proofs.Fronts.{next_placed}
 use Rattle.hp_text.proofs.Saying.{token_says}
-use Rattle.hp_read.specs.Symbols.{symbol_by, symbol_of, symbols}
+use Rattle.hp_grammar.specs.Symbols.{symbol_by, symbol_of, symbols}
 use Rattle.hp_bounds.proofs.Loads.{value, load}
 
 pub tokens_fit : (bytes : List ℕ) (from to : ℕ) (ts : List Placed) → from ≤ length bytes → Passes bytes from ts to → (from + length ts) ≤ length bytes

@@ -1,8 +1,9 @@
 -- How little a text of some length can spell.
 use Rattle.std.specs.Prelude.{ℕ, ◌+◌, ◌≤◌, List, length}
 use Rattle.hp_ast.specs.declared.problem.Problem.{Problem}
-use Rattle.hp_read.specs.Spells.{Spells}
+use Rattle.hp_grammar.specs.Spells.{Spells}
 use Rattle.hp_norm.specs.Literals.{IsLight}
+use Rattle.hp_bounds.specs.Depth.{IsShallow}
 
 -- no more declarations and clauses than bytes
 abbrev pub FewItems : Type 0
@@ -11,3 +12,7 @@ FewItems = (bytes : List ℕ) (p : Problem) → Spells bytes p → (length p.dec
 -- where the text has at most 2^20 bytes, no atom has numbers that come near to 10^25 together
 abbrev pub LightNumbers : Type 0
 LightNumbers = (bytes : List ℕ) (p : Problem) → Spells bytes p → length bytes ≤ 1048576 → IsLight p
+
+-- the limits on parentheses and signs leave no room for deeper terms
+abbrev pub ShallowTerms : Type 0
+ShallowTerms = (bytes : List ℕ) (p : Problem) → Spells bytes p → IsShallow p

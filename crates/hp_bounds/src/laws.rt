@@ -1,6 +1,6 @@
-//! Two laws of the grammar. Neither has a cause to fail: they speak of every text, and nothing is computed.
+//! Three laws of the grammar. None has a cause to fail: they speak of every text, and nothing is computed.
 
-ghost use Rattle.hp_bounds.specs.Laws.{FewItems, LightNumbers};
+ghost use Rattle.hp_bounds.specs.Laws.{FewItems, LightNumbers, ShallowTerms};
 
 /// A problem has no more declarations and clauses together than any text that spells it has bytes.
 pub fn few_items()
@@ -11,4 +11,10 @@ pub fn few_items()
 /// the magnitudes of the numerators on both sides, those in arguments and those that multiply left out, add up to less.
 pub fn light_numbers()
     ensures { LightNumbers }
+{}
+
+/// The terms of a problem that some text spells are less than 1,300 deep, whatever the text's length: a number, null and a name
+/// are 1 deep, and any other term is one deeper than the deepest of its parts. What recurses by a term that was read recurses no deeper.
+pub fn shallow_terms()
+    ensures { ShallowTerms }
 {}

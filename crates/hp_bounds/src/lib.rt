@@ -1,7 +1,7 @@
-//! What the length of a text bounds: how many declarations and clauses it can spell, and how large the numbers
-//! of its atoms can be together. What works on a problem that was read can count on both.
+//! What bounds a problem that was read: its text's length, how many declarations and clauses it has, and how large the numbers
+//! of its atoms are together; the limits on parentheses and signs, how deep its terms nest.
 #![tactic(auto)]
 
 mod laws;
 
-pub use laws::{few_items, light_numbers};
+pub use laws::{few_items, light_numbers, shallow_terms};

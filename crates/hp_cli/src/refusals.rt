@@ -5,8 +5,8 @@ ghost use Rattle.std.specs.Fmt.{decimal};
 ghost use Rattle.hp_cli.specs.Refusals.{limit_text, not_built_text, sort_text, spelling_text};
 
 use hp_ast::{Limit, Which};
+use hp_grammar::ReadErr;
 use hp_num::Text;
-use hp_read::ReadErr;
 use hp_sorts::SortErr;
 use hp_text::put_whole;
 use std::alloc::{AllocError, Global};

@@ -3,15 +3,15 @@ use Rattle.std.proofs.Common.{◌≡◌, ◌≢◌, ℕ, List, [], ◌∷◌, �
 use Rattle.hp_text.specs.Placed.{IsPlaced}
 use Rattle.hp_text.proofs.Fronts.{next_placed}
 use Rattle.hp_text.proofs.Lexing.{passes_within}
-use Rattle.hp_read.specs.declared.fault.ReadErr.{ReadErr}
-use Rattle.hp_read.specs.declared.fault.ReadErr.TheVariants.{Syntax, LongNumeral, Deep, Memory}
-use Rattle.hp_read.specs.declared.counts.Counts.{Counts}
-use Rattle.hp_read.specs.declared.symbol.Symbol.{Symbol as Token}
-use Rattle.hp_read.specs.Counts.{counted}
-use Rattle.hp_read.specs.Faults.{Begins, IsWithin}
-use Rattle.hp_read.specs.Problems.{SpellsProblem}
-use Rattle.hp_read.specs.Symbols.{symbol_of, symbols}
-use Rattle.hp_read.specs.Spells.{IsMisplaced, IsNoToken, IsUnfinished, IsPastLimit, IsFault}
+use Rattle.hp_grammar.specs.declared.fault.ReadErr.{ReadErr}
+use Rattle.hp_grammar.specs.declared.fault.ReadErr.TheVariants.{Syntax, LongNumeral, Deep, Memory}
+use Rattle.hp_grammar.specs.declared.counts.Counts.{Counts}
+use Rattle.hp_grammar.specs.declared.symbol.Symbol.{Symbol as Token}
+use Rattle.hp_grammar.specs.Counts.{counted}
+use Rattle.hp_grammar.specs.Faults.{Begins, IsWithin}
+use Rattle.hp_grammar.specs.Problems.{SpellsProblem}
+use Rattle.hp_grammar.specs.Symbols.{symbol_of, symbols}
+use Rattle.hp_grammar.specs.Spells.{IsMisplaced, IsNoToken, IsUnfinished, IsPastLimit, IsFault}
 use Rattle.hp_faults.specs.Laws.{OneFault}
 use Rattle.hp_faults.proofs.Fronts.{parts, Opens, front_opens}
 use Rattle.hp_faults.proofs.Stops.{Cause, Stops, one_stop}

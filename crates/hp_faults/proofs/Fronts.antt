@@ -7,12 +7,12 @@ use Rattle.hp_text.specs.declared.token.Token.{Token as Placed}
 use Rattle.hp_text.specs.declared.token.TokenErr.{TokenErr}
 use Rattle.hp_text.specs.Tokens.{next_from}
 use Rattle.hp_text.specs.Lexes.{Passes}
-use Rattle.hp_read.specs.declared.symbol.Symbol.{Symbol as Token}
-use Rattle.hp_read.specs.Machine.{◌and_then◌, runs}
-use Rattle.hp_read.specs.Counts.{count, nothing_counted}
-use Rattle.hp_read.specs.Faults.{IsWithin}
-use Rattle.hp_read.specs.Problems.{SpellsProblem}
-use Rattle.hp_read.proofs.Machines.{bound}
+use Rattle.hp_grammar.specs.declared.symbol.Symbol.{Symbol as Token}
+use Rattle.hp_grammar.specs.Runs.{◌and_then◌, runs}
+use Rattle.hp_grammar.specs.Counts.{count, nothing_counted}
+use Rattle.hp_grammar.specs.Faults.{IsWithin}
+use Rattle.hp_grammar.specs.Problems.{SpellsProblem}
+use Rattle.hp_grammar.proofs.Machines.{bound}
 
 -- one list goes on where the other ends, at a place
 pub record GoesOn (bytes : List ℕ) (ts us : List Placed) (place : ℕ) : Type 0 where

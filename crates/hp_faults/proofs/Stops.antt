@@ -6,13 +6,13 @@ use Rattle.hp_text.specs.declared.token.Token.{Token as Placed}
 use Rattle.hp_text.specs.declared.token.TokenErr.{TokenErr}
 use Rattle.hp_text.specs.Tokens.{next_from}
 use Rattle.hp_text.specs.Lexes.{Passes}
-use Rattle.hp_read.specs.declared.fault.ReadErr.{ReadErr}
-use Rattle.hp_read.specs.declared.fault.ReadErr.TheVariants.{Syntax, Deep}
-use Rattle.hp_read.specs.declared.symbol.Symbol.{Symbol as Token}
-use Rattle.hp_read.specs.Causes.{fault_of}
-use Rattle.hp_read.specs.Faults.{IsWithin}
-use Rattle.hp_read.specs.Symbols.{symbol_of, symbols}
-use Rattle.hp_read.proofs.Bytes.{symbols-append}
+use Rattle.hp_grammar.specs.declared.fault.ReadErr.{ReadErr}
+use Rattle.hp_grammar.specs.declared.fault.ReadErr.TheVariants.{Syntax, Deep}
+use Rattle.hp_grammar.specs.declared.symbol.Symbol.{Symbol as Token}
+use Rattle.hp_grammar.specs.Spells.{fault_of}
+use Rattle.hp_grammar.specs.Faults.{IsWithin}
+use Rattle.hp_grammar.specs.Symbols.{symbol_of, symbols}
+use Rattle.hp_grammar.proofs.Symbols.{symbols-append}
 use Rattle.hp_faults.proofs.Fronts.{GoesOn, compare, Opens, front_opens, front_within}
 
 -- what the tokens and one more say

@@ -1,8 +1,8 @@
 -- How many faults a text can have.
 use Rattle.std.specs.Prelude.{ℕ, List, ◌≡◌, ◌≢◌}
-use Rattle.hp_read.specs.declared.fault.ReadErr.{ReadErr}
-use Rattle.hp_read.specs.declared.fault.ReadErr.TheVariants.{Memory}
-use Rattle.hp_read.specs.Spells.{IsFault}
+use Rattle.hp_grammar.specs.declared.fault.ReadErr.{ReadErr}
+use Rattle.hp_grammar.specs.declared.fault.ReadErr.TheVariants.{Memory}
+use Rattle.hp_grammar.specs.Spells.{IsFault}
 
 -- no two, neither at two places nor of two causes at one; want of memory is aside, since it says nothing of the text
 abbrev pub OneFault : Type 0

@@ -1,5 +1,5 @@
 -- What the reader has come to says what the bytes spell, or what their fault is.
-use Rattle.std.proofs.Common.{◌≡◌, ◌≢◌, ℕ, Bool, true, false, List, [], ◌∷◌, ◌++◌, length, map, Option, Some, None, Result, Ok, Err, IfErr, refl, sym, ap, subst, ◌∙◌, append_assoc, append-nil, ◌⊎◌, inl, inr}
+use Rattle.std.proofs.Common.{◌≡◌, ◌≢◌, ℕ, List, [], ◌∷◌, ◌++◌, length, Option, Some, None, Result, Ok, Err, IfErr, refl, sym, ap, subst, ◌∙◌, inl, inr}
 use Rattle.std.specs.Result.{IsErrAnd}
 use Rattle.hp_ast.specs.declared.problem.Problem.{Problem}
 use Rattle.hp_text.specs.declared.token.Kind.TheVariants as kinds
@@ -7,27 +7,24 @@ use Rattle.hp_text.specs.declared.token.Token.{Token as Placed}
 use Rattle.hp_text.specs.declared.token.TokenErr.{TokenErr}
 use Rattle.hp_text.specs.declared.token.TokenErr.TheVariants as faults
 use Rattle.hp_text.specs.Tokens.{next_from}
-use Rattle.hp_text.specs.Lexes.{Passes, IsLast, Lexes}
+use Rattle.hp_text.specs.Lexes.{Lexes}
 use Rattle.hp_text.proofs.Lexing.{passes_more}
-use Rattle.hp_read.specs.declared.fault.ReadErr.{ReadErr}
-use Rattle.hp_read.specs.declared.fault.ReadErr.TheVariants.{Syntax, LongNumeral, Deep, Memory}
-use Rattle.hp_read.specs.declared.counts.Counts.{Counts}
+use Rattle.hp_grammar.specs.declared.fault.ReadErr.{ReadErr}
+use Rattle.hp_grammar.specs.declared.fault.ReadErr.TheVariants.{Syntax, Deep}
+use Rattle.hp_grammar.specs.declared.counts.Counts.{Counts}
 use Rattle.hp_read.specs.declared.stage.Progress.{Progress}
-use Rattle.hp_read.specs.Token.{Token}
-use Rattle.hp_read.specs.Machine.{◌and_then◌, runs}
-use Rattle.hp_read.specs.Counts.{count, counted, nothing_counted}
-use Rattle.hp_read.specs.Faults.{IsWithin}
-use Rattle.hp_read.specs.Problems.{SpellsProblem}
+use Rattle.hp_grammar.specs.declared.symbol.Symbol.{Symbol as Token}
+use Rattle.hp_grammar.specs.Runs.{◌and_then◌, runs}
+use Rattle.hp_grammar.specs.Counts.{count, nothing_counted}
+use Rattle.hp_grammar.specs.Problems.{SpellsProblem}
 use Rattle.hp_read.specs.Top.{started, top_step, top_end}
-use Rattle.hp_read.specs.Symbols.{symbol_of, symbols}
-use Rattle.hp_read.specs.Spells.{Spells, IsMisplaced, IsNoToken, IsUnfinished, IsPastLimit, IsFault, IsReading}
-use Rattle.hp_read.specs.Causes.{fault_of}
-use Rattle.hp_read.proofs.Machines.{runs_on, runs_one, runs_none, one_value, begins, refused_at, deep_at, early_at}
+use Rattle.hp_grammar.specs.Symbols.{symbol_of, symbols}
+use Rattle.hp_grammar.specs.Spells.{Spells, IsFault}
+use Rattle.hp_read.specs.Reading.{IsReading}
+use Rattle.hp_grammar.specs.Spells.{fault_of}
+use Rattle.hp_grammar.proofs.Symbols.{symbols-append}
+use Rattle.hp_grammar.proofs.Machines.{runs_on, runs_one, begins, refused_at, deep_at, early_at}
 use Rattle.hp_read.proofs.TopOnly.{problems_read}
-
-pub symbols-append : (bytes : List ℕ) (ts us : List Placed) → symbols bytes (ts ++ us) ≡ symbols bytes ts ++ symbols bytes us
-symbols-append bytes [] us = refl
-symbols-append bytes (t ∷ ts) us = ap (λ z. symbol_of bytes t ∷ z) (symbols-append bytes ts us)
 
 pub reading_starts : (bytes : List ℕ) → IsReading bytes 0 started nothing_counted
 reading_starts bytes = record { tokens = []; passes = refl; goes = refl; within = refl }

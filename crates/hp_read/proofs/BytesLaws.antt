@@ -1,25 +1,25 @@
 -- Bytes spell one problem, or have a fault.
-use Rattle.std.proofs.Common.{◌≡◌, ◌≢◌, ℕ, List, [], ◌∷◌, ◌++◌, length, Option, Some, None, Result, Ok, Err, IfOk, IfErr, refl, sym, ap, subst, ◌∙◌, append_assoc, append-nil, ◌⊎◌, inl, inr}
+use Rattle.std.proofs.Common.{◌≡◌, ℕ, List, [], ◌∷◌, ◌++◌, Some, None, Result, Ok, Err, IfOk, IfErr, refl, sym, ap, subst, ◌∙◌, ◌⊎◌, inl, inr}
 use Rattle.hp_ast.specs.declared.problem.Problem.{Problem}
 use Rattle.hp_text.specs.declared.token.Kind.TheVariants as kinds
 use Rattle.hp_text.specs.declared.token.Token.{Token as Placed}
 use Rattle.hp_text.specs.declared.token.TokenErr.{TokenErr}
 use Rattle.hp_text.specs.Tokens.{next_from}
-use Rattle.hp_text.specs.Lexes.{Passes, IsLast, Lexes}
+use Rattle.hp_text.specs.Lexes.{Passes}
 use Rattle.hp_text.proofs.Lexing.{one_lexing}
-use Rattle.hp_read.specs.declared.fault.ReadErr.{ReadErr}
-use Rattle.hp_read.specs.declared.fault.ReadErr.TheVariants.{Syntax, LongNumeral, Deep, Memory}
-use Rattle.hp_read.specs.declared.counts.Counts.{Counts}
-use Rattle.hp_read.specs.Token.{Token}
-use Rattle.hp_read.specs.Machine.{◌and_then◌, runs}
-use Rattle.hp_read.specs.Counts.{count, counted, nothing_counted}
-use Rattle.hp_read.specs.Problems.{SpellsProblem}
+use Rattle.hp_grammar.specs.declared.fault.ReadErr.{ReadErr}
+use Rattle.hp_grammar.specs.declared.fault.ReadErr.TheVariants.{Syntax, LongNumeral, Deep, Memory}
+use Rattle.hp_grammar.specs.declared.counts.Counts.{Counts}
+use Rattle.hp_grammar.specs.declared.symbol.Symbol.{Symbol as Token}
+use Rattle.hp_grammar.specs.Runs.{◌and_then◌, runs}
+use Rattle.hp_grammar.specs.Counts.{count, counted, nothing_counted}
+use Rattle.hp_grammar.specs.Problems.{SpellsProblem}
 use Rattle.hp_read.specs.Top.{started, top_step, top_end}
-use Rattle.hp_read.specs.Symbols.{symbol_of, symbols}
-use Rattle.hp_read.specs.Spells.{Spells, IsMisplaced, IsNoToken, IsUnfinished, IsPastLimit, IsFault}
-use Rattle.hp_read.proofs.Machines.{bound, runs_on, one_value}
+use Rattle.hp_grammar.specs.Symbols.{symbol_of, symbols}
+use Rattle.hp_grammar.specs.Spells.{Spells, IsMisplaced, IsNoToken, IsUnfinished, IsPastLimit, IsFault}
+use Rattle.hp_grammar.proofs.Machines.{bound, one_value}
 use Rattle.hp_read.proofs.TopOnly.{problems_read}
-use Rattle.hp_read.proofs.Bytes.{symbols-append}
+use Rattle.hp_grammar.proofs.Symbols.{symbols-append}
 
 -- the tokens of a text begin with those between its beginning and a place
 record Follows (bytes : List ℕ) (ts us : List Placed) (from to : ℕ) : Type 0 where

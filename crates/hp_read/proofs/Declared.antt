@@ -1,6 +1,5 @@
 -- The machines of declarations and of lists of variables read their grammars.
-use Rattle.std.proofs.Common.{◌≡◌, ℕ, Bool, true, false, List, [], ◌∷◌, ◌++◌, Option, Some, None, refl, sym, ap, subst, ◌∙◌, append_assoc, append-nil, ◌⊎◌, inl, inr}
-use Rattle.std.specs.Prelude.{if◌then◌else◌}
+use Rattle.std.proofs.Common.{◌≡◌, ℕ, true, List, [], ◌∷◌, ◌++◌, Option, Some, refl, sym, ap, subst, append_assoc, append-nil, inl, inr}
 use Rattle.hp_ast.specs.declared.problem.Decl.{Decl}
 use Rattle.hp_ast.specs.declared.problem.Decl.TheVariants.{Fun}
 use Rattle.hp_ast.specs.declared.problem.Sort.{Sort}
@@ -14,14 +13,17 @@ use Rattle.hp_read.specs.declared.lines.Function.{Function}
 use Rattle.hp_read.specs.declared.lines.Function.TheVariants as f
 use Rattle.hp_read.specs.declared.lines.Variables.{Variables}
 use Rattle.hp_read.specs.declared.lines.Variables.TheVariants as v
-use Rattle.hp_read.specs.Token.{Token, word, name, numeral, same}
-use Rattle.hp_read.specs.Bodies.{Separated, one, more}
-use Rattle.hp_read.specs.Declarations.{SpellsSort, num, idx, ptr, SpellsName, called, SpellsConstants, constants, constants_of, SpellsFunction, function, SpellsVariable, variable, variable_of, SpellsVariables, none, some}
-use Rattle.hp_read.specs.Machine.{◌and_then◌, runs}
+use Rattle.hp_grammar.specs.declared.symbol.Symbol.{Symbol as Token}
+use Rattle.hp_grammar.specs.declared.symbol.Symbol.TheVariants.{Word as word, Name as name, Numeral as numeral}
+use Rattle.hp_grammar.specs.Token.{same}
+use Rattle.hp_grammar.specs.Bodies.{Separated}
+use Rattle.hp_grammar.specs.Declarations.{SpellsSort, num, idx, ptr, SpellsName, called, SpellsConstants, constants, constants_of, SpellsFunction, function, SpellsVariable, variable, variable_of, SpellsVariables, none, some}
+use Rattle.hp_grammar.specs.Runs.{runs}
 use Rattle.hp_read.specs.Stages.{sort_of, constants_step, constants_end, function_step, function_end, variables_step, variables_end}
-use Rattle.hp_read.proofs.Machines.{bound, runs_on, result_of}
-use Rattle.hp_read.proofs.Found.{◌and◌}
-use Rattle.hp_read.proofs.Layers.{same-is, choice, ListIs, listed, Lists, list_read}
+use Rattle.hp_grammar.proofs.Machines.{bound, result_of}
+use Rattle.hp_body.proofs.Found.{◌and◌}
+use Rattle.hp_grammar.proofs.Symbols.{same-is}
+use Rattle.hp_read.proofs.Layers.{choice, ListIs, listed}
 
 -- what a run goes from and to, where each step keeps it
 pub kept : {S : Type 0} (next : S → Token → Option S) (Is : S → List Token → Type 0)

@@ -1,9 +1,8 @@
 -- What is spelled as a declaration or a list of variables is read as that, and from each state some tokens lead to an end.
-use Rattle.std.proofs.Common.{◌≡◌, ℕ, List, [], ◌∷◌, ◌++◌, Option, Some, None, refl, sym, ap, ◌∙◌}
+use Rattle.std.proofs.Common.{◌≡◌, ℕ, List, [], ◌∷◌, ◌++◌, Some, refl, ap, ◌∙◌}
 use Rattle.hp_ast.specs.declared.problem.Decl.{Decl}
 use Rattle.hp_ast.specs.declared.problem.Decl.TheVariants.{Fun}
 use Rattle.hp_ast.specs.declared.problem.Sort.{Sort}
-use Rattle.hp_ast.specs.declared.problem.Sort.TheVariants as sorts
 use Rattle.hp_ast.specs.declared.problem.Var.{Var}
 use Rattle.hp_text.specs.declared.token.Kind.TheVariants as kinds
 use Rattle.hp_read.specs.declared.lines.Constants.{Constants}
@@ -12,11 +11,13 @@ use Rattle.hp_read.specs.declared.lines.Function.{Function}
 use Rattle.hp_read.specs.declared.lines.Function.TheVariants as f
 use Rattle.hp_read.specs.declared.lines.Variables.{Variables}
 use Rattle.hp_read.specs.declared.lines.Variables.TheVariants as v
-use Rattle.hp_read.specs.Token.{Token, word, name, numeral, same, AreTokens}
-use Rattle.hp_read.specs.Declarations.{SpellsSort, num, idx, ptr, SpellsName, called, SpellsConstants, constants, constants_of, SpellsFunction, function, SpellsVariable, variable, variable_of, SpellsVariables, none, some}
-use Rattle.hp_read.specs.Machine.{◌and_then◌, runs}
+use Rattle.hp_grammar.specs.declared.symbol.Symbol.{Symbol as Token}
+use Rattle.hp_grammar.specs.declared.symbol.Symbol.TheVariants.{Word as word, Name as name, Numeral as numeral}
+use Rattle.hp_grammar.specs.Token.{same, AreTokens}
+use Rattle.hp_grammar.specs.Declarations.{SpellsSort, num, idx, ptr, SpellsName, called, SpellsConstants, constants, constants_of, SpellsFunction, function, SpellsVariable, variable, variable_of, SpellsVariables, none, some}
+use Rattle.hp_grammar.specs.Runs.{◌and_then◌, runs}
 use Rattle.hp_read.specs.Stages.{sort_of, constants_step, constants_end, function_step, function_end, variables_step, variables_end}
-use Rattle.hp_read.proofs.Machines.{runs_on, result_of, Reads}
+use Rattle.hp_grammar.proofs.Machines.{runs_on, result_of, Reads}
 use Rattle.hp_read.proofs.Layers.{Lists, list_read}
 use Rattle.hp_read.proofs.Declared.{constants_found, function_found, variables_found}
 

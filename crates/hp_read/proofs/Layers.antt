@@ -1,20 +1,17 @@
 -- Machines inside a machine, and what lists with a sign between their items are read as.
-use Rattle.std.proofs.Common.{◌≡◌, Bool, true, false, List, [], ◌∷◌, ◌++◌, Option, Some, None, refl, sym, ap, subst, ◌∙◌, append_assoc, append-nil, ◌⊎◌, inl, inr}
+use Rattle.std.proofs.Common.{◌≡◌, Bool, true, false, List, [], ◌∷◌, ◌++◌, Option, Some, None, refl, ap, ◌∙◌, append_assoc, ◌⊎◌, inl, inr}
 use Rattle.std.specs.Prelude.{if◌then◌else◌}
-use denote.Enum.Bare.{same_true}
-use Rattle.hp_text.specs.contracts.token.Kind.{the_type}
 use Rattle.hp_text.specs.declared.token.Kind.{Kind}
 use Rattle.hp_text.specs.declared.token.Kind.TheVariants as kinds
-use Rattle.hp_read.specs.Token.{Token, word, name, numeral, same}
-use Rattle.hp_read.specs.Bodies.{Separated, one, more}
-use Rattle.hp_read.specs.Machine.{◌and_then◌, runs}
+use Rattle.hp_grammar.specs.declared.symbol.Symbol.{Symbol as Token}
+use Rattle.hp_grammar.specs.declared.symbol.Symbol.TheVariants.{Word as word, Name as name, Numeral as numeral}
+use Rattle.hp_grammar.specs.Token.{same}
+use Rattle.hp_grammar.specs.Bodies.{Separated, one, more}
+use Rattle.hp_grammar.specs.Runs.{◌and_then◌, runs}
 use Rattle.hp_read.specs.Top.{ends_with}
-use Rattle.hp_read.proofs.Machines.{bound, runs_on, result_of}
-use Rattle.hp_read.proofs.Found.{◌and◌}
-
-pub same-is : (a b : Kind) → same a b ≡ true → a ≡ b
-unfolding same
-same-is a b e = same_true the_type tt a b e
+use Rattle.hp_grammar.proofs.Machines.{bound, runs_on}
+use Rattle.hp_grammar.proofs.Symbols.{same-is}
+use Rattle.hp_body.proofs.Found.{◌and◌}
 
 pub choice : {A : Type 0} (b : Bool) (x y : Option A) (r : A) → (if b then x else y) ≡ Some r → ((b ≡ true) × (x ≡ Some r)) ⊎ ((b ≡ false) × (y ≡ Some r))
 choice true x y r e = inl (refl, e)

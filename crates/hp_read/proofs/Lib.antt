@@ -1,10 +1,3 @@
-pub mod Machines
-pub mod Found
-pub mod Only
-pub mod Finish
-pub mod BodyFound
-pub mod BodyOnly
-pub mod BodyFinish
 pub mod Layers
 pub mod Declared
 pub mod DeclaredOnly
@@ -12,7 +5,6 @@ pub mod TopFound
 pub mod TopOnly
 pub mod Bytes
 pub mod BytesLaws
-pub mod Symbols
 pub mod Meaning
 pub mod Resumed
 pub mod Printing

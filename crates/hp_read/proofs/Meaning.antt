@@ -1,21 +1,21 @@
 -- Bytes spell a problem or have a fault.
-use Rattle.std.proofs.Common.{◌≡◌, ◌≢◌, ℕ, List, [], ◌∷◌, length, Option, Some, None, Result, Ok, Err, refl, ap, ◌∙◌, ◌⊎◌, inl, inr}
+use Rattle.std.proofs.Common.{◌≡◌, ◌≢◌, ℕ, List, [], ◌∷◌, length, Option, Some, None, Result, Ok, Err, refl, ap, ◌∙◌, inl, inr}
 use Rattle.hp_ast.specs.declared.problem.Problem.{Problem}
 use Rattle.hp_text.specs.declared.token.Kind.TheVariants as kinds
 use Rattle.hp_text.specs.declared.token.Token.{Token as Placed}
 use Rattle.hp_text.specs.declared.token.TokenErr.{TokenErr}
 use Rattle.hp_text.specs.declared.token.TokenErr.TheVariants as faults
 use Rattle.hp_text.specs.Tokens.{next_from}
-use Rattle.hp_text.specs.Lexes.{Passes, IsLast, Lexes}
+use Rattle.hp_text.specs.Lexes.{Passes, IsLast}
 use Rattle.hp_text.proofs.Lexing.{one_lexing}
-use Rattle.hp_read.specs.declared.fault.ReadErr.{ReadErr}
-use Rattle.hp_read.specs.declared.fault.ReadErr.TheVariants.{Syntax, LongNumeral, Deep, Memory}
-use Rattle.hp_read.specs.declared.counts.Counts.{Counts}
+use Rattle.hp_grammar.specs.declared.fault.ReadErr.TheVariants.{Syntax, LongNumeral, Deep, Memory}
+use Rattle.hp_grammar.specs.declared.counts.Counts.{Counts}
 use Rattle.hp_read.specs.declared.stage.Progress.{Progress}
-use Rattle.hp_read.specs.Counts.{count, nothing_counted}
+use Rattle.hp_grammar.specs.Counts.{count, nothing_counted}
 use Rattle.hp_read.specs.Top.{started, top_step, top_end}
-use Rattle.hp_read.specs.Symbols.{symbol_of}
-use Rattle.hp_read.specs.Spells.{Spells, IsFault, IsReading, HasMeaning}
+use Rattle.hp_grammar.specs.Symbols.{symbol_of}
+use Rattle.hp_grammar.specs.Spells.{HasMeaning}
+use Rattle.hp_read.specs.Reading.{IsReading}
 use Rattle.hp_read.proofs.Bytes.{reading_starts, reading_goes, misplaced, past_limit, no_token, unfinished, spelled}
 
 -- a cause that isn't want of memory

@@ -1,5 +1,5 @@
 -- A reader that gives its clauses up to a text comes to what a reader of the whole comes to.
-use Rattle.std.proofs.Common.{◌≡◌, ◌≢◌, ℕ, Bool, true, false, List, [], ◌∷◌, ◌++◌, length, Option, Some, None, Result, Ok, Err, IfErr, OnOk, refl, sym, ap, subst, ◌∙◌, append_assoc, append-nil, ◌⊎◌, inl, inr}
+use Rattle.std.proofs.Common.{◌≡◌, ◌≢◌, ℕ, Bool, true, false, List, [], ◌++◌, length, Option, Some, None, Result, Ok, Err, IfOk, IfErr, OnOk, refl, sym, ap, subst, ◌∙◌, append_assoc, append-nil, ◌⊎◌, inl, inr}
 use Rattle.std.proofs.lemmas.Grind.{flat_map-append}
 use Rattle.std.specs.Prelude.{if◌then◌else◌}
 use Rattle.std.specs.Result.{IsErrAnd}
@@ -10,21 +10,24 @@ use Rattle.hp_text.specs.declared.token.Kind.TheVariants as kinds
 use Rattle.hp_text.specs.declared.token.Token.{Token as Placed}
 use Rattle.hp_text.specs.declared.token.TokenErr.{TokenErr}
 use Rattle.hp_text.specs.Tokens.{next_from}
-use Rattle.hp_read.specs.declared.fault.ReadErr.{ReadErr}
-use Rattle.hp_read.specs.declared.fault.ReadErr.TheVariants.{Syntax, LongNumeral, Deep, Memory}
-use Rattle.hp_read.specs.declared.counts.Counts.{Counts}
+use Rattle.hp_grammar.specs.declared.fault.ReadErr.{ReadErr}
+use Rattle.hp_grammar.specs.declared.fault.ReadErr.TheVariants.{Syntax, LongNumeral, Deep, Memory}
+use Rattle.hp_grammar.specs.declared.counts.Counts.{Counts}
 use Rattle.hp_read.specs.declared.stage.Progress.{Progress}
 use Rattle.hp_read.specs.declared.stage.Stage.{Stage}
 use Rattle.hp_read.specs.declared.stage.Stage.TheVariants.{Whole}
-use Rattle.hp_read.specs.Causes.{StopsAt, fault_of}
-use Rattle.hp_read.specs.Counts.{count, nothing_counted}
-use Rattle.hp_read.specs.Problems.{problem_of}
-use Rattle.hp_read.specs.Symbols.{symbol_of}
-use Rattle.hp_read.specs.Spells.{IsFault, IsReading}
-use Rattle.hp_read.specs.Token.{Token}
+use Rattle.hp_read.specs.Causes.{StopsAt}
+use Rattle.hp_grammar.specs.Spells.{fault_of}
+use Rattle.hp_grammar.specs.Counts.{count, nothing_counted}
+use Rattle.hp_grammar.specs.Problems.{problem_of}
+use Rattle.hp_grammar.specs.Symbols.{symbol_of}
+use Rattle.hp_grammar.specs.Spells.{Spells, IsFault}
+use Rattle.hp_read.specs.Reading.{IsReading}
+use Rattle.hp_grammar.specs.declared.symbol.Symbol.{Symbol as Token}
 use Rattle.hp_read.specs.Top.{at, started, top_step, top_end, is_whole}
 use Rattle.hp_read.specs.Printed.{SpellsAsPrinted, with_before, resumed, HasClause, IsHeld, HasLines, IsPrinting, Holds, Follows, GivesUp}
 use Rattle.hp_read.proofs.Bytes.{reading_starts, reading_goes, misplaced, past_limit, no_token_here, unfinished, spelled}
+use Rattle.hp_read.proofs.BytesLaws.{no_fault, one_problem}
 use Rattle.hp_read.proofs.Resumed.{over, step_over, kept}
 
 -- ---- the fault of a step
@@ -204,3 +207,9 @@ printed bytes out after place s c t p h e k g follows = record {
 pub printed_early : (bytes out : List ℕ) (place : ℕ) (s : Progress) (c : Counts) (t : Placed) → IsPrinting bytes out place s c → next_from bytes place ≡ Ok t → t.kind ≡ kinds.End
     → top_end s ≡ None → IsFault bytes (Syntax (length bytes))
 printed_early bytes out place s c t h e k g = unfinished bytes place (resumed h.before s) c t h.reading e k (ends_none h.before s g)
+
+-- what the printer answers where the bytes spell a problem
+pub printed_only : (bytes : List ℕ) (r : Result (List ℕ) ReadErr) → IfOk r (SpellsAsPrinted bytes) → IfErr r (IsFault bytes) → (p : Problem) → Spells bytes p
+    → (r ≡ Ok (problem_text p)) ⊎ (r ≡ Err Memory)
+printed_only bytes (Ok text) h k p s = inl (ap (λ t. Ok t) (h.printed ∙ ap problem_text (one_problem bytes h.problem p h.spelled s)))
+printed_only bytes (Err e) h k p s = inr (ap (λ z. Err z) (no_fault bytes p e s k))

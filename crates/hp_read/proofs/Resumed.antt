@@ -1,5 +1,5 @@
 -- A state whose first clauses were given up goes on as the whole one does.
-use Rattle.std.proofs.Common.{◌≡◌, ℕ, Bool, true, false, List, [], ◌∷◌, ◌++◌, Option, Some, None, refl, sym, ap, subst, ◌∙◌, append_assoc, ◌⊎◌, inl, inr}
+use Rattle.std.proofs.Common.{◌≡◌, Bool, true, false, List, [], ◌∷◌, ◌++◌, Option, Some, None, refl, sym, ap, subst, ◌∙◌, append_assoc}
 use Rattle.std.specs.Prelude.{if◌then◌else◌}
 use Rattle.hp_ast.specs.declared.problem.Atom.{Atom}
 use Rattle.hp_ast.specs.declared.problem.Clause.{Clause}
@@ -7,8 +7,8 @@ use Rattle.hp_ast.specs.declared.problem.Problem.{Problem}
 use Rattle.hp_ast.specs.declared.problem.Var.{Var}
 use Rattle.hp_text.specs.declared.token.Kind.{Kind}
 use Rattle.hp_text.specs.declared.token.Kind.TheVariants as kinds
-use Rattle.hp_read.specs.declared.body.Body.{Body as BodyState}
-use Rattle.hp_read.specs.declared.body.Place.TheVariants.{First as Head}
+use Rattle.hp_body.specs.declared.body.Body.{Body as BodyState}
+use Rattle.hp_body.specs.declared.body.Place.TheVariants.{First as Head}
 use Rattle.hp_read.specs.declared.lines.Constants.TheVariants as constants
 use Rattle.hp_read.specs.declared.lines.Function.TheVariants as function
 use Rattle.hp_read.specs.declared.lines.Variables.{Variables as VariablesState}
@@ -16,10 +16,12 @@ use Rattle.hp_read.specs.declared.lines.Variables.TheVariants.{First}
 use Rattle.hp_read.specs.declared.stage.Stage.{Stage}
 use Rattle.hp_read.specs.declared.stage.Stage.TheVariants.{Start, Profile, Numbered, Whole, Constants, Function, Clause as ClauseWord, Variables, Body}
 use Rattle.hp_read.specs.declared.stage.Progress.{Progress}
-use Rattle.hp_read.specs.Token.{Token, word, name, numeral, same}
-use Rattle.hp_read.specs.Problems.{problem_of, clause_of}
-use Rattle.hp_read.specs.Machine.{◌and_then◌}
-use Rattle.hp_read.specs.BodyMachine.{begun, body_step, body_end}
+use Rattle.hp_grammar.specs.declared.symbol.Symbol.{Symbol as Token}
+use Rattle.hp_grammar.specs.declared.symbol.Symbol.TheVariants.{Word as word, Name as name, Numeral as numeral}
+use Rattle.hp_grammar.specs.Token.{same}
+use Rattle.hp_grammar.specs.Problems.{problem_of, clause_of}
+use Rattle.hp_grammar.specs.Runs.{◌and_then◌}
+use Rattle.hp_body.specs.BodyMachine.{begun, body_step, body_end}
 use Rattle.hp_read.specs.Stages.{variables_step, variables_end}
 use Rattle.hp_read.specs.Top.{at, with_item, ends_with, declaration, between, item_goes, at_whole, at_clause, variables_stage, body_stage, stage_step, top_step}
 use Rattle.hp_read.specs.Printed.{with_before, resumed, HasClause, IsItem, IsHeld}

@@ -1,7 +1,7 @@
 -- What was read of a whole text is spelled.
-use Rattle.std.proofs.Common.{◌≡◌, ℕ, Bool, true, false, List, [], ◌∷◌, ◌++◌, Option, Some, None, refl, sym, ap, subst, ◌∙◌, append_assoc, append-nil, ◌⊎◌, inl, inr}
+use Rattle.std.proofs.Common.{◌≡◌, Bool, true, false, List, [], ◌∷◌, ◌++◌, Option, Some, refl, sym, ap, subst, ◌∙◌, append_assoc, append-nil, inl, inr}
 use Rattle.std.proofs.lemmas.Bool.{eqb-true}
-use Rattle.std.specs.Prelude.{if◌then◌else◌, ◌==◌}
+use Rattle.std.specs.Prelude.{◌==◌}
 use Rattle.hp_ast.specs.declared.problem.Atom.{Atom}
 use Rattle.hp_ast.specs.declared.problem.Clause.{Clause}
 use Rattle.hp_ast.specs.declared.problem.Decl.{Decl}
@@ -9,8 +9,8 @@ use Rattle.hp_ast.specs.declared.problem.Problem.{Problem}
 use Rattle.hp_ast.specs.declared.problem.Var.{Var}
 use Rattle.hp_text.specs.declared.token.Kind.{Kind}
 use Rattle.hp_text.specs.declared.token.Kind.TheVariants as kinds
-use Rattle.hp_read.specs.declared.body.Body.{Body as BodyState}
-use Rattle.hp_read.specs.declared.body.Place.TheVariants.{First}
+use Rattle.hp_body.specs.declared.body.Body.{Body as BodyState}
+use Rattle.hp_body.specs.declared.body.Place.TheVariants.{First}
 use Rattle.hp_read.specs.declared.lines.Constants.{Constants as ConstantsState}
 use Rattle.hp_read.specs.declared.lines.Constants.TheVariants as c
 use Rattle.hp_read.specs.declared.lines.Function.{Function as FunctionState}
@@ -20,21 +20,24 @@ use Rattle.hp_read.specs.declared.lines.Variables.TheVariants as v
 use Rattle.hp_read.specs.declared.stage.Stage.{Stage}
 use Rattle.hp_read.specs.declared.stage.Stage.TheVariants.{Start, Profile, Numbered, Whole, Constants, Function, Clause as ClauseWord, Variables, Body}
 use Rattle.hp_read.specs.declared.stage.Progress.{Progress}
-use Rattle.hp_read.specs.Token.{Token, word, name, numeral, same}
-use Rattle.hp_read.specs.Bodies.{SpellsBody}
-use Rattle.hp_read.specs.Declarations.{SpellsConstants, SpellsFunction, SpellsVariables}
-use Rattle.hp_read.specs.Problems.{SpellsDeclaration, constants, function, clause_of, SpellsItem, clause, query, SpellsProfile, missing, given, SpellsDeclarations, SpellsItems, problem_of, SpellsProblem, problem}
-use Rattle.hp_read.specs.Problems as grammar
-use Rattle.hp_read.specs.Machine.{◌and_then◌, runs}
-use Rattle.hp_read.specs.BodyMachine.{begun, body_step, body_end}
+use Rattle.hp_grammar.specs.declared.symbol.Symbol.{Symbol as Token}
+use Rattle.hp_grammar.specs.declared.symbol.Symbol.TheVariants.{Word as word, Name as name, Numeral as numeral}
+use Rattle.hp_grammar.specs.Token.{same}
+use Rattle.hp_grammar.specs.Bodies.{SpellsBody}
+use Rattle.hp_grammar.specs.Declarations.{SpellsConstants, SpellsFunction, SpellsVariables}
+use Rattle.hp_grammar.specs.Problems.{SpellsDeclaration, constants, function, clause_of, SpellsItem, clause, query, SpellsProfile, missing, given, SpellsDeclarations, SpellsItems, problem_of, SpellsProblem, problem}
+use Rattle.hp_grammar.specs.Problems as grammar
+use Rattle.hp_grammar.specs.Runs.{◌and_then◌, runs}
+use Rattle.hp_body.specs.BodyMachine.{begun, body_step, body_end}
 use Rattle.hp_read.specs.Stages.{constants_step, constants_end, function_step, function_end, variables_step, variables_end}
 use Rattle.hp_read.specs.Top.{at, started, with_declarations, with_item, ends_with, declaration, between, item_goes, at_start, at_profile, at_whole, at_numbered, at_clause, constants_stage, function_stage, variables_stage, body_stage, stage_step, top_step, stage_end, top_end}
-use Rattle.hp_read.proofs.Machines.{bound, runs_on, runs_one, result_of, Reads}
-use Rattle.hp_read.proofs.Found.{◌and◌}
-use Rattle.hp_read.proofs.BodyFinish.{SpellsPair, bodies_read}
+use Rattle.hp_grammar.proofs.Machines.{bound, runs_on, runs_one, result_of, Reads}
+use Rattle.hp_body.proofs.Found.{◌and◌}
+use Rattle.hp_body.proofs.BodyFinish.{SpellsPair, bodies_read}
 use Rattle.hp_read.proofs.Declared.{kept}
 use Rattle.hp_read.proofs.DeclaredOnly.{constants_read, function_read, variables_read}
-use Rattle.hp_read.proofs.Layers.{same-is, choice, ends_with-is}
+use Rattle.hp_grammar.proofs.Symbols.{same-is}
+use Rattle.hp_read.proofs.Layers.{choice, ends_with-is}
 
 -- one declaration, or one item, more
 not_empty : {A : Type 0} (xs : List A) (a : A) → xs ++ a ∷ [] ≡ [] → ⊥

@@ -1,5 +1,5 @@
 -- What is spelled as a problem is read as that, and from each state some tokens lead to its end.
-use Rattle.std.proofs.Common.{◌≡◌, ℕ, Bool, true, false, List, [], ◌∷◌, ◌++◌, Option, Some, None, refl, sym, ap, subst, ◌∙◌, append_assoc, append-nil}
+use Rattle.std.proofs.Common.{◌≡◌, ℕ, Bool, true, false, List, [], ◌∷◌, ◌++◌, Option, Some, None, refl, sym, ap, ◌∙◌, append_assoc, append-nil}
 use Rattle.std.specs.Prelude.{if◌then◌else◌}
 use Rattle.hp_ast.specs.declared.problem.Atom.{Atom}
 use Rattle.hp_ast.specs.declared.problem.Clause.{Clause}
@@ -8,14 +8,9 @@ use Rattle.hp_ast.specs.declared.problem.Problem.{Problem}
 use Rattle.hp_ast.specs.declared.problem.Var.{Var}
 use Rattle.hp_text.specs.declared.token.Kind.{Kind}
 use Rattle.hp_text.specs.declared.token.Kind.TheVariants as kinds
-use Rattle.hp_read.specs.declared.body.Body.{Body as BodyState}
-use Rattle.hp_read.specs.declared.body.Body.TheVariants.{Reading, Closed}
-use Rattle.hp_read.specs.declared.body.Place.{Place}
-use Rattle.hp_read.specs.declared.body.Place.TheVariants.{First}
-use Rattle.hp_read.specs.declared.body.Side.{Side}
-use Rattle.hp_read.specs.declared.body.Side.TheVariants.{Left, Right}
-use Rattle.hp_read.specs.declared.state.Mode.{Mode}
-use Rattle.hp_read.specs.declared.state.Frame.{Frame}
+use Rattle.hp_body.specs.declared.body.Body.{Body as BodyState}
+use Rattle.hp_body.specs.declared.body.Body.TheVariants.{Reading, Closed}
+use Rattle.hp_body.specs.declared.body.Place.TheVariants.{First}
 use Rattle.hp_read.specs.declared.lines.Constants.{Constants as ConstantsState}
 use Rattle.hp_read.specs.declared.lines.Constants.TheVariants as c
 use Rattle.hp_read.specs.declared.lines.Function.{Function as FunctionState}
@@ -25,16 +20,19 @@ use Rattle.hp_read.specs.declared.lines.Variables.TheVariants as v
 use Rattle.hp_read.specs.declared.stage.Stage.{Stage}
 use Rattle.hp_read.specs.declared.stage.Stage.TheVariants.{Start, Profile, Numbered, Whole, Constants, Function, Clause as ClauseWord, Variables, Body}
 use Rattle.hp_read.specs.declared.stage.Progress.{Progress}
-use Rattle.hp_read.specs.Token.{Token, word, name, numeral, same, AreTokens}
-use Rattle.hp_read.specs.Bodies.{relation, SpellsBody}
-use Rattle.hp_read.specs.Problems.{SpellsDeclaration, constants, function, clause_of, SpellsItem, clause, query, SpellsProfile, missing, given, SpellsDeclarations, SpellsItems, problem_of, SpellsProblem, problem}
-use Rattle.hp_read.specs.Problems as grammar
-use Rattle.hp_read.specs.Machine.{◌and_then◌, runs, at_word, number_goes, factor_goes, end_goes}
-use Rattle.hp_read.specs.BodyMachine.{begun, body_step, body_end, body_word, head_goes, other_goes}
+use Rattle.hp_grammar.specs.declared.symbol.Symbol.{Symbol as Token}
+use Rattle.hp_grammar.specs.declared.symbol.Symbol.TheVariants.{Word as word, Numeral as numeral}
+use Rattle.hp_grammar.specs.Token.{same, AreTokens}
+use Rattle.hp_grammar.specs.Bodies.{relation}
+use Rattle.hp_grammar.specs.Problems.{SpellsDeclaration, constants, function, clause_of, SpellsItem, clause, query, SpellsProfile, missing, given, SpellsDeclarations, SpellsItems, problem_of, SpellsProblem, problem}
+use Rattle.hp_grammar.specs.Problems as grammar
+use Rattle.hp_grammar.specs.Runs.{◌and_then◌, runs}
+use Rattle.hp_body.specs.Machine.{at_word, number_goes, factor_goes, end_goes}
+use Rattle.hp_body.specs.BodyMachine.{begun, body_step, body_end, body_word, head_goes, other_goes}
 use Rattle.hp_read.specs.Stages.{sort_of, constants_step, constants_end, function_step, function_end, variables_step, variables_end}
 use Rattle.hp_read.specs.Top.{at, started, with_declarations, with_item, ends_with, between, item_goes, at_start, at_profile, at_whole, at_numbered, at_clause, constants_stage, function_stage, variables_stage, body_stage, stage_step, top_step, stage_end, top_end}
-use Rattle.hp_read.proofs.Machines.{bound, runs_on, result_of, are_both, Reads}
-use Rattle.hp_read.proofs.BodyFinish.{SpellsPair, bodies_read}
+use Rattle.hp_grammar.proofs.Machines.{bound, runs_on, result_of, are_both, Reads}
+use Rattle.hp_body.proofs.BodyFinish.{bodies_read}
 use Rattle.hp_read.proofs.DeclaredOnly.{constants_read, function_read, variables_read}
 use Rattle.hp_read.proofs.Layers.{goes_inside, lift}
 use Rattle.hp_read.proofs.TopFound.{problem_found}

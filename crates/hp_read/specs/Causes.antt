@@ -1,19 +1,13 @@
--- The causes that the reader gives where no token stands, and where a token may not stand.
+-- The causes that the reader gives where a token may not stand.
 use Rattle.std.specs.Prelude.{◌≡◌, ℕ, List, Some, None}
 use Rattle.hp_text.specs.declared.token.Token.{Token as Placed}
-use Rattle.hp_text.specs.declared.token.TokenErr.{TokenErr}
-use Rattle.hp_text.specs.declared.token.TokenErr.TheVariants as faults
-use Rattle.hp_read.specs.declared.fault.ReadErr.{ReadErr}
-use Rattle.hp_read.specs.declared.fault.ReadErr.TheVariants.{Syntax, LongNumeral, Deep, Memory}
-use Rattle.hp_read.specs.declared.counts.Counts.{Counts}
+use Rattle.hp_grammar.specs.declared.fault.ReadErr.{ReadErr}
+use Rattle.hp_grammar.specs.declared.fault.ReadErr.TheVariants.{Syntax, LongNumeral, Deep, Memory}
+use Rattle.hp_grammar.specs.declared.counts.Counts.{Counts}
 use Rattle.hp_read.specs.declared.stage.Progress.{Progress}
-use Rattle.hp_read.specs.Symbols.{symbol_of}
-use Rattle.hp_read.specs.Counts.{count}
+use Rattle.hp_grammar.specs.Symbols.{symbol_of}
+use Rattle.hp_grammar.specs.Counts.{count}
 use Rattle.hp_read.specs.Top.{top_step}
-
-abbrev pub fault_of : TokenErr → ReadErr
-fault_of (faults.Stray o) = Syntax o
-fault_of (faults.LongNumeral o) = LongNumeral o
 
 -- why a state doesn't go behind a token: it may not stand there, or it passes a limit; want of memory says nothing
 abbrev pub StopsAt : List ℕ → Placed → Progress → Counts → ReadErr → Type 0

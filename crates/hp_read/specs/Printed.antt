@@ -3,12 +3,13 @@ use Rattle.std.specs.Prelude.{◌≡◌, ℕ, List, [], ◌∷◌, ◌++◌, ◌
 use Rattle.hp_ast.specs.declared.problem.Clause.{Clause}
 use Rattle.hp_ast.specs.declared.problem.Problem.{Problem}
 use Rattle.hp_ast.specs.Printing.{heading_text, clauses_text, problem_text}
-use Rattle.hp_read.specs.declared.counts.Counts.{Counts}
+use Rattle.hp_grammar.specs.declared.counts.Counts.{Counts}
 use Rattle.hp_read.specs.declared.stage.Progress.{Progress}
 use Rattle.hp_read.specs.declared.stage.Stage.{Stage}
 use Rattle.hp_read.specs.declared.stage.Stage.TheVariants.{Whole, Clause as ClauseWord, Variables, Body}
-use Rattle.hp_read.specs.Problems.{problem_of}
-use Rattle.hp_read.specs.Spells.{Spells, IsReading}
+use Rattle.hp_grammar.specs.Problems.{problem_of}
+use Rattle.hp_grammar.specs.Spells.{Spells}
+use Rattle.hp_read.specs.Reading.{IsReading}
 use Rattle.hp_read.specs.Top.{at}
 
 -- the text is the printed text of the problem that the bytes spell

@@ -13,9 +13,11 @@ use Rattle.hp_read.specs.declared.lines.Function.{Function}
 use Rattle.hp_read.specs.declared.lines.Function.TheVariants as function
 use Rattle.hp_read.specs.declared.lines.Variables.{Variables}
 use Rattle.hp_read.specs.declared.lines.Variables.TheVariants as variables
-use Rattle.hp_read.specs.Token.{Token, word, name, numeral, same}
-use Rattle.hp_read.specs.Declarations.{constants_of, variable_of}
-use Rattle.hp_read.specs.Machine.{◌and_then◌}
+use Rattle.hp_grammar.specs.declared.symbol.Symbol.{Symbol as Token}
+use Rattle.hp_grammar.specs.declared.symbol.Symbol.TheVariants.{Word as word, Name as name, Numeral as numeral}
+use Rattle.hp_grammar.specs.Token.{same}
+use Rattle.hp_grammar.specs.Declarations.{constants_of, variable_of}
+use Rattle.hp_grammar.specs.Runs.{◌and_then◌}
 
 unfoldable pub sort_of : Kind → Option Sort
 sort_of k =

@@ -1,13 +1,13 @@
 -- Reading a whole text, token by token.
-use Rattle.std.specs.Prelude.{ℕ, Bool, true, false, if◌then◌else◌, ◌==◌, List, [], ◌∷◌, ◌++◌, Option, Some, None}
+use Rattle.std.specs.Prelude.{Bool, true, false, if◌then◌else◌, ◌==◌, List, [], ◌∷◌, ◌++◌, Option, Some, None}
 use Rattle.hp_ast.specs.declared.problem.Clause.{Clause}
 use Rattle.hp_ast.specs.declared.problem.Decl.{Decl}
 use Rattle.hp_ast.specs.declared.problem.Problem.{Problem}
 use Rattle.hp_text.specs.declared.token.Kind.{Kind}
 use Rattle.hp_text.specs.declared.token.Kind.TheVariants as kinds
-use Rattle.hp_read.specs.declared.body.Place.TheVariants.{First}
+use Rattle.hp_body.specs.declared.body.Place.TheVariants.{First}
 use Rattle.hp_ast.specs.declared.problem.Var.{Var}
-use Rattle.hp_read.specs.declared.body.Body.{Body as BodyState}
+use Rattle.hp_body.specs.declared.body.Body.{Body as BodyState}
 use Rattle.hp_read.specs.declared.lines.Constants.{Constants as ConstantsState}
 use Rattle.hp_read.specs.declared.lines.Constants.TheVariants as constants
 use Rattle.hp_read.specs.declared.lines.Function.{Function as FunctionState}
@@ -17,10 +17,12 @@ use Rattle.hp_read.specs.declared.lines.Variables.TheVariants as variables
 use Rattle.hp_read.specs.declared.stage.Stage.{Stage}
 use Rattle.hp_read.specs.declared.stage.Stage.TheVariants.{Start, Profile, Numbered, Whole, Constants, Function, Clause as ClauseWord, Variables, Body}
 use Rattle.hp_read.specs.declared.stage.Progress.{Progress}
-use Rattle.hp_read.specs.Token.{Token, word, name, numeral, same}
-use Rattle.hp_read.specs.Problems.{clause_of, problem_of}
-use Rattle.hp_read.specs.Machine.{◌and_then◌}
-use Rattle.hp_read.specs.BodyMachine.{begun, body_step, body_end}
+use Rattle.hp_grammar.specs.declared.symbol.Symbol.{Symbol as Token}
+use Rattle.hp_grammar.specs.declared.symbol.Symbol.TheVariants.{Word as word, Name as name, Numeral as numeral}
+use Rattle.hp_grammar.specs.Token.{same}
+use Rattle.hp_grammar.specs.Problems.{clause_of, problem_of}
+use Rattle.hp_grammar.specs.Runs.{◌and_then◌}
+use Rattle.hp_body.specs.BodyMachine.{begun, body_step, body_end}
 use Rattle.hp_read.specs.Stages.{constants_step, constants_end, function_step, function_end, variables_step, variables_end}
 
 abbrev pub at : Problem → Stage → Progress

@@ -2,9 +2,9 @@
 
 ghost use Rattle.std.specs.Prelude.{◌≡◌, ℕ, List};
 ghost use Rattle.hp_ast.specs.declared.problem.Problem.{Problem as Spelled};
-ghost use Rattle.hp_read.specs.Spells.{Spells, IsFault, HasMeaning};
-ghost use Rattle.hp_read.specs.declared.fault.ReadErr.{ReadErr as Fault};
-ghost use Rattle.hp_read.specs.declared.fault.ReadErr.TheVariants.{Memory};
+ghost use Rattle.hp_grammar.specs.Spells.{Spells, IsFault, HasMeaning};
+ghost use Rattle.hp_grammar.specs.declared.fault.ReadErr.{ReadErr as Fault};
+ghost use Rattle.hp_grammar.specs.declared.fault.ReadErr.TheVariants.{Memory};
 
 /// No text spells two problems.
 pub fn spells_one_problem()

@@ -2,16 +2,16 @@
 //! The steps are those of the machines of `specs/Stages.antt`. Each enum has a drop of its own, which keeps the proofs of its callers short.
 
 ghost use Rattle.std.specs.Prelude.{◌≡◌, ◌++◌, Option, Some, None, IfOk};
-ghost use Rattle.hp_read.specs.Given.{Gives};
-ghost use Rattle.hp_read.specs.Declarations.{constants_of};
-ghost use Rattle.hp_read.specs.Machine.{◌and_then◌};
+ghost use Rattle.hp_body.specs.Given.{Gives};
+ghost use Rattle.hp_grammar.specs.Declarations.{constants_of};
+ghost use Rattle.hp_grammar.specs.Runs.{◌and_then◌};
 ghost use Rattle.hp_read.specs.Stages.{sort_of as sort_of_kind, constants_word, constants_name, constants_step, constants_end, function_word, function_name, function_numeral, function_step, function_end, variables_word, variables_name, variables_step, variables_end};
 ghost use Rattle.hp_read.specs.declared.lines.Function.TheVariants.{Argument};
 ghost use Rattle.hp_read.specs.declared.lines.Variables.TheVariants.{Colon};
 
-use crate::stop::Stop;
-use crate::symbol::{Symbol, same};
 use hp_ast::{Decl, Sort, Var};
+use hp_body::Stop;
+use hp_grammar::{Symbol, same};
 use hp_num::{List, Text};
 use hp_text::Kind;
 use std::alloc::{AllocError, Global};

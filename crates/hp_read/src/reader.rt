@@ -6,19 +6,18 @@ ghost use Rattle.hp_text.specs.Tokens.{next_from};
 ghost use Rattle.hp_text.specs.Placed.{IsPlaced};
 ghost use Rattle.hp_text.specs.declared.token.Kind.TheVariants.{End};
 ghost use Rattle.hp_read.specs.Causes.{StopsAt};
-ghost use Rattle.hp_read.specs.Counts.{count, nothing_counted};
-ghost use Rattle.hp_read.specs.Spells.{Spells, IsFault, IsReading};
-ghost use Rattle.hp_read.specs.Symbols.{symbol_of};
+ghost use Rattle.hp_grammar.specs.Counts.{count, nothing_counted};
+ghost use Rattle.hp_grammar.specs.Spells.{Spells, IsFault};
+ghost use Rattle.hp_read.specs.Reading.{IsReading};
+ghost use Rattle.hp_grammar.specs.Symbols.{symbol_of};
 ghost use Rattle.hp_read.specs.Top.{started, top_step};
 ghost use Rattle.hp_ast.specs.declared.problem.Problem.{Problem as Spelled};
-ghost use Rattle.hp_read.specs.declared.fault.ReadErr.TheVariants.{Memory};
+ghost use Rattle.hp_grammar.specs.declared.fault.ReadErr.TheVariants.{Memory};
 
-use crate::counts::Counts;
-use crate::fault::ReadErr;
 use crate::stage::Progress;
-use crate::stop::Stop;
-use crate::symbol::symbol_at;
 use hp_ast::Problem;
+use hp_body::Stop;
+use hp_grammar::{Counts, ReadErr, symbol_at};
 use hp_text::{Cursor, Kind, Token};
 use std::alloc::Global;
 

@@ -2,21 +2,20 @@
 //! The steps are those of the machine of texts in `specs/`. The enum has a drop of its own, which keeps the proofs of its callers short.
 
 ghost use Rattle.std.specs.Prelude.{◌≡◌, Option, Some, None};
-ghost use Rattle.hp_read.specs.Given.{Gives};
-ghost use Rattle.hp_read.specs.Moves.{Moves};
-ghost use Rattle.hp_read.specs.Machine.{◌and_then◌};
-ghost use Rattle.hp_read.specs.BodyMachine.{begun as begun_at, body_end};
+ghost use Rattle.hp_body.specs.Given.{Gives};
+ghost use Rattle.hp_body.specs.Moves.{Moves};
+ghost use Rattle.hp_grammar.specs.Runs.{◌and_then◌};
+ghost use Rattle.hp_body.specs.BodyMachine.{begun as begun_at, body_end};
 ghost use Rattle.hp_read.specs.Stages.{constants_end, variables_step};
 ghost use Rattle.hp_read.specs.declared.stage.Stage.TheVariants.{Whole, Body as stage_of_body};
-ghost use Rattle.hp_read.specs.declared.body.Place.TheVariants.{First};
-ghost use Rattle.hp_read.specs.Problems.{clause_of};
+ghost use Rattle.hp_body.specs.declared.body.Place.TheVariants.{First};
+ghost use Rattle.hp_grammar.specs.Problems.{clause_of};
 ghost use Rattle.hp_read.specs.Top.{started, ends_with as ends_with_kind, declaration as declaration_at, between as between_at, item_goes, at_start, at_profile, at_numbered, at_whole, at_clause, constants_stage, function_stage, variables_stage, body_stage, stage_step, top_step, at, top_end, with_item, with_declarations, is_whole as is_whole_stage};
 
-use crate::body::{Body, Place};
 use crate::lines::{Constants, Function, Variables};
-use crate::stop::Stop;
-use crate::symbol::{Symbol, same};
 use hp_ast::{Clause, Problem, Var};
+use hp_body::{Body, Place, Stop};
+use hp_grammar::{Symbol, same};
 use hp_num::List;
 use hp_text::Kind;
 use std::alloc::Global;

@@ -1,4 +1,5 @@
 use super::*;
+use hp_grammar::ReadErr;
 use std::alloc::Global;
 use std::process::Abort;
 use std::test::Fail;

@@ -2,26 +2,37 @@
 //! Clauses are printed and given up once four are whole, so the memory that is taken beside the text is that of the declarations and
 //! of a few clauses.
 
-ghost use Rattle.std.specs.Prelude.{Ok, ◌≡◌, ◌≢◌, ◌<◌, IfOk, IfErr, OnOk, length};
+ghost use Rattle.std.specs.Prelude.{Ok, Err, ◌≡◌, ◌≢◌, ◌<◌, ◌⊎◌, IfOk, IfErr, OnOk, length};
+ghost use Rattle.hp_ast.specs.Printing.{problem_text};
+ghost use Rattle.hp_ast.specs.declared.problem.Problem.{Problem as Spelled};
 ghost use Rattle.hp_text.specs.Tokens.{next_from};
 ghost use Rattle.hp_text.specs.Placed.{IsPlaced};
 ghost use Rattle.hp_text.specs.declared.token.Kind.TheVariants.{End};
 ghost use Rattle.hp_read.specs.Printed.{SpellsAsPrinted, IsPrinting, Follows, GivesUp};
-ghost use Rattle.hp_read.specs.Spells.{IsFault};
+ghost use Rattle.hp_grammar.specs.Spells.{Spells, IsFault};
+ghost use Rattle.hp_grammar.specs.declared.fault.ReadErr.TheVariants.{Memory};
 
-use crate::fault::ReadErr;
 use crate::reader::Reading;
 use crate::stage::Stage;
 use hp_ast::{Problem, put_clauses, put_heading};
+use hp_grammar::ReadErr;
 use hp_num::{List, Text};
 use hp_text::{Cursor, Kind, Token};
 use std::alloc::{AllocError, Global};
 
 /// The printed text of the problem that the bytes spell: the line of the profile, then one line for each declaration and then for each
-/// clause, in their order. The faults of other bytes are those of `read`, and `Memory` may come at any bytes.
+/// clause, in their order. Where they spell none, the fault is that of `read`; `Memory` may come at any bytes.
 ///
 /// Beside the text, which may be longer than the bytes, the declarations and at most four clauses stand in memory.
 pub fn transcribe(alloc: Global, bytes: &[u8]) -> Result<Text, ReadErr>
+    ensures found { IfOk result (SpellsAsPrinted bytes.now) }
+    ensures fault { IfErr result (IsFault bytes.now) }
+    ensures only { (p : Spelled) → Spells bytes.now p → (result ≡ Ok (problem_text p)) ⊎ (result ≡ Err Memory) }
+{
+    print_tokens(alloc, bytes)
+}
+
+fn print_tokens(alloc: Global, bytes: &[u8]) -> Result<Text, ReadErr>
     ensures found { IfOk result (SpellsAsPrinted bytes.now) }
     ensures fault { IfErr result (IsFault bytes.now) }
 {

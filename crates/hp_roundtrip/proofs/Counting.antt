@@ -1,29 +1,16 @@
 -- Tokens that pass the limits wherever others do, put together as the grammar puts terms together.
-use Rattle.std.proofs.Common.{◌≡◌, ℕ, ◌+◌, ◌<◌, ◌≤◌, Bool, true, false, List, [], ◌∷◌, ◌++◌, Option, Some, None, refl, sym, ap, subst, ◌∙◌, arith}
+use Rattle.std.proofs.Common.{◌≡◌, ℕ, ◌+◌, ◌<◌, ◌≤◌, true, false, List, [], ◌∷◌, ◌++◌, Some, None, refl, sym, ap, subst, ◌∙◌, arith}
 use Rattle.std.specs.Prelude.{if◌then◌else◌, nat_lt}
 use Rattle.std.proofs.lemmas.Bool.{ltb-true, lt-ltb}
 use Rattle.hp_text.specs.declared.token.Kind.{Kind}
 use Rattle.hp_text.specs.declared.token.Kind.TheVariants as kinds
-use Rattle.hp_read.specs.declared.symbol.Symbol.{Symbol as Token}
-use Rattle.hp_read.specs.declared.symbol.Symbol.TheVariants.{Word as word, Name as name}
-use Rattle.hp_read.specs.Token.{same}
-use Rattle.hp_read.specs.declared.counts.Counts.{Counts}
-use Rattle.hp_read.specs.Counts.{counts_of, one_sign, one_closed, inside, ends_atom, count_other, count_sign, count_word, count}
-use Rattle.hp_read.specs.Machine.{◌and_then◌, runs}
-use Rattle.hp_read.proofs.Machines.{bound, runs_on}
-
-pub runs_split : {S : Type 0} (next : S → Token → Option S) (u v : List Token) (s n : S) → runs next s (u ++ v) ≡ Some n
-    → (a : S) × (runs next s u ≡ Some a) × (runs next a v ≡ Some n)
-runs_split next [] v s n e = (s, refl, e)
-runs_split next (k ∷ u) v s n e =
-    let b = bound (next s k) (λ c. runs next c (u ++ v)) n e in
-    let r = runs_split next u v b.0 n b.2 in
-    (r.0, ap (λ o. o and_then λ c. runs next c u) b.1 ∙ r.1, r.2)
-
--- a step that a test let through
-tested : {A B : Type 0} (b : Bool) (a : A) (f : A → Option B) (c : B) → ((if b then Some a else None) and_then f) ≡ Some c → (b ≡ true) × (f a ≡ Some c)
-tested true a f c e = (refl, e)
-tested false a f c e = absurd (cc)
+use Rattle.hp_grammar.specs.declared.symbol.Symbol.{Symbol as Token}
+use Rattle.hp_grammar.specs.declared.symbol.Symbol.TheVariants.{Word as word, Name as name}
+use Rattle.hp_grammar.specs.Token.{same}
+use Rattle.hp_grammar.specs.declared.counts.Counts.{Counts}
+use Rattle.hp_grammar.specs.Counts.{counts_of, one_sign, one_closed, inside, ends_atom, count_other, count_sign, count_word, count}
+use Rattle.hp_grammar.specs.Runs.{◌and_then◌, runs}
+use Rattle.hp_grammar.proofs.Machines.{runs_on, runs_split, tested}
 
 -- where u is counted from o open parentheses, v is from k fewer and from still fewer, with as many signs
 pub record Follows (k : ℕ) (u v : List Token) : Type 0 where

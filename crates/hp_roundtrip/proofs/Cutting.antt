@@ -8,8 +8,8 @@ use Rattle.hp_text.specs.declared.token.Token.{Token as Placed}
 use Rattle.hp_text.specs.Tokens.{gap, token, front, start_from, next_from}
 use Rattle.hp_text.specs.Placed.{text_of}
 use Rattle.hp_text.specs.Lexes.{Passes, Lexes}
-use Rattle.hp_read.specs.declared.symbol.Symbol.{Symbol as Token}
-use Rattle.hp_read.specs.Symbols.{symbol_by, symbol_of, symbols}
+use Rattle.hp_grammar.specs.declared.symbol.Symbol.{Symbol as Token}
+use Rattle.hp_grammar.specs.Symbols.{symbol_by, symbol_of, symbols}
 
 -- ---- cutting
 -- the bytes without the blanks and comments in front

@@ -4,10 +4,10 @@ use Rattle.hp_ast.specs.declared.term.Term.{Term}
 use Rattle.hp_ast.specs.declared.printing.Place.{Place}
 use Rattle.hp_ast.specs.declared.printing.Place.TheVariants.{Whole, Operand, Factor}
 use Rattle.hp_text.specs.declared.token.Kind.TheVariants as kinds
-use Rattle.hp_read.specs.declared.symbol.Symbol.{Symbol as Token}
-use Rattle.hp_read.specs.declared.symbol.Symbol.TheVariants.{Word as word}
-use Rattle.hp_read.specs.Tree.{number_of, null, named, apply, add, sub, neg, scale}
-use Rattle.hp_read.specs.Grammar.{SpellsTerm, SpellsPart, SpellsFactor, SpellsTerms, part, minus, sum, difference, number, product, factor, single, call, nothing, group, first, more}
+use Rattle.hp_grammar.specs.declared.symbol.Symbol.{Symbol as Token}
+use Rattle.hp_grammar.specs.declared.symbol.Symbol.TheVariants.{Word as word}
+use Rattle.hp_grammar.specs.Tree.{number_of, null, named, apply, add, sub, neg, scale}
+use Rattle.hp_grammar.specs.Grammar.{SpellsTerm, SpellsPart, SpellsFactor, SpellsTerms, part, minus, sum, difference, number, product, factor, single, call, nothing, group, first, more}
 use Rattle.hp_roundtrip.specs.Printed.{tokens_at}
 use Rattle.hp_roundtrip.proofs.Joined.{join_by-append, not_empty}
 use Rattle.hp_roundtrip.proofs.Lowest.{number_derived}

@@ -4,9 +4,9 @@ use Rattle.std.specs.List.{flat_map, join_by}
 use Rattle.std.proofs.lemmas.Grind.{flat_map-append}
 use Rattle.std.proofs.lemmas.List.Folds.{flat_map-map}
 use Rattle.hp_text.specs.declared.token.Kind.{Kind}
-use Rattle.hp_read.specs.declared.symbol.Symbol.{Symbol as Token}
-use Rattle.hp_read.specs.declared.symbol.Symbol.TheVariants.{Word as word}
-use Rattle.hp_read.specs.Bodies.{Separated, one, more}
+use Rattle.hp_grammar.specs.declared.symbol.Symbol.{Symbol as Token}
+use Rattle.hp_grammar.specs.declared.symbol.Symbol.TheVariants.{Word as word}
+use Rattle.hp_grammar.specs.Bodies.{Separated, one, more}
 
 -- pieces that are made first are joined alike
 pub join_by-map : {X Y A : Type 0} (f : Y → List A) (g : X → Y) (sep : List A) (xs : List X) → join_by f sep (map g xs) ≡ join_by (λ x. f (g x)) sep xs

@@ -3,9 +3,9 @@ use Rattle.std.proofs.Common.{◌≡◌, ℕ, List, [], ◌∷◌, ◌++◌, map
 use Rattle.std.specs.List.{flat_map, join_by}
 use Rattle.std.proofs.lemmas.List.Folds.{flat_map-map}
 use Rattle.hp_text.specs.declared.token.Kind.{Kind}
-use Rattle.hp_read.specs.Token.{AreTokens}
-use Rattle.hp_read.specs.declared.symbol.Symbol.{Symbol as Token}
-use Rattle.hp_read.specs.declared.symbol.Symbol.TheVariants.{Word as word}
+use Rattle.hp_grammar.specs.Token.{AreTokens}
+use Rattle.hp_grammar.specs.declared.symbol.Symbol.{Symbol as Token}
+use Rattle.hp_grammar.specs.declared.symbol.Symbol.TheVariants.{Word as word}
 use Rattle.hp_roundtrip.proofs.Pieces.{IsSign, IsPiece, IsTail, piece_tail, sign_piece, tail_tail, no_tail}
 
 pub tokens_front : (ts us : List Token) → AreTokens (ts ++ us) → AreTokens ts

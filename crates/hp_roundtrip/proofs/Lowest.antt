@@ -5,9 +5,9 @@ use Rattle.std.proofs.lemmas.Bool.{eqb-true}
 use Rattle.hp_math.specs.Rational.{ℚ, magnitude, ratio, lowest_num, is_whole}
 use Rattle.hp_math.proofs.Rational.{ratio-parts}
 use Rattle.hp_text.specs.declared.token.Kind.TheVariants as kinds
-use Rattle.hp_read.specs.declared.symbol.Symbol.{Symbol as Token}
-use Rattle.hp_read.specs.declared.symbol.Symbol.TheVariants.{Word as word, Numeral as numeral}
-use Rattle.hp_read.specs.Grammar.{SpellsNumber, whole, fraction}
+use Rattle.hp_grammar.specs.declared.symbol.Symbol.{Symbol as Token}
+use Rattle.hp_grammar.specs.declared.symbol.Symbol.TheVariants.{Word as word, Numeral as numeral}
+use Rattle.hp_grammar.specs.Grammar.{SpellsNumber, whole, fraction}
 use Rattle.hp_bounds.proofs.Fractions.{copies, denominator_most, numerator_below}
 use Rattle.hp_roundtrip.specs.Printed.{frac_tokens, whole_tokens}
 

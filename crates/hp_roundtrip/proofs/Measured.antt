@@ -6,12 +6,12 @@ use Rattle.hp_ast.specs.declared.term.Term.{Term}
 use Rattle.hp_ast.specs.declared.printing.Place.{Place}
 use Rattle.hp_ast.specs.declared.printing.Place.TheVariants.{Whole, Operand, Factor}
 use Rattle.hp_text.specs.declared.token.Kind.TheVariants as kinds
-use Rattle.hp_read.specs.declared.symbol.Symbol.{Symbol as Token}
-use Rattle.hp_read.specs.declared.symbol.Symbol.TheVariants.{Word as word, Name as name, Numeral as numeral}
-use Rattle.hp_read.specs.Token.{same}
-use Rattle.hp_read.specs.Counts.{ends_atom, count_other, count_sign, count_word}
-use Rattle.hp_read.specs.Tree.{number_of, null, named, apply, add, sub, neg, scale}
-use Rattle.hp_read.specs.Grammar.{SpellsNumber, SpellsTerm, SpellsPart, SpellsFactor, SpellsTerms, whole, fraction, part, minus, sum, difference, number, product, factor, single, call, nothing, group, first, more}
+use Rattle.hp_grammar.specs.declared.symbol.Symbol.{Symbol as Token}
+use Rattle.hp_grammar.specs.declared.symbol.Symbol.TheVariants.{Word as word, Name as name, Numeral as numeral}
+use Rattle.hp_grammar.specs.Token.{same}
+use Rattle.hp_grammar.specs.Counts.{ends_atom, count_other, count_sign, count_word}
+use Rattle.hp_grammar.specs.Tree.{number_of, null, named, apply, add, sub, neg, scale}
+use Rattle.hp_grammar.specs.Grammar.{SpellsNumber, SpellsTerm, SpellsPart, SpellsFactor, SpellsTerms, whole, fraction, part, minus, sum, difference, number, product, factor, single, call, nothing, group, first, more}
 use Rattle.hp_roundtrip.specs.Printed.{tokens_at, frac_tokens}
 use Rattle.hp_roundtrip.proofs.Joined.{join_by-append}
 use Rattle.hp_roundtrip.proofs.Lowest.{is_low, low_tokens, tokens-low}

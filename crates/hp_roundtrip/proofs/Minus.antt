@@ -7,8 +7,8 @@ use Rattle.hp_text.specs.Words.{is_name}
 use Rattle.hp_text.specs.Tokens.{token, front}
 use Rattle.hp_text.specs.Longest.{is_digits}
 use Rattle.hp_text.proofs.Runs.{both_true}
-use Rattle.hp_read.specs.declared.symbol.Symbol.{Symbol as Token}
-use Rattle.hp_read.specs.declared.symbol.Symbol.TheVariants.{Word as word}
+use Rattle.hp_grammar.specs.declared.symbol.Symbol.{Symbol as Token}
+use Rattle.hp_grammar.specs.declared.symbol.Symbol.TheVariants.{Word as word}
 use Rattle.hp_roundtrip.proofs.Cutting.{cuts_join}
 use Rattle.hp_roundtrip.proofs.Pieces.{IsPiece}
 use Rattle.hp_roundtrip.proofs.Signs.{one}

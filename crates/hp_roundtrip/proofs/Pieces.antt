@@ -2,7 +2,7 @@
 use Rattle.std.proofs.Common.{◌≡◌, ℕ, false, List, [], ◌++◌, refl, append_assoc}
 use Rattle.hp_text.specs.Bytes.{is_name_byte}
 use Rattle.hp_text.proofs.LongestTokens.{begins_with}
-use Rattle.hp_read.specs.declared.symbol.Symbol.{Symbol as Token}
+use Rattle.hp_grammar.specs.declared.symbol.Symbol.{Symbol as Token}
 use Rattle.hp_roundtrip.proofs.Cutting.{Cuts, cuts_join}
 
 -- ---- what stands behind

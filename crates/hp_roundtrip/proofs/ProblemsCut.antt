@@ -17,10 +17,10 @@ use Rattle.hp_ast.specs.declared.problem.Decl.{Decl}
 use Rattle.hp_ast.specs.declared.problem.Decl.TheVariants.{Const, Fun}
 use Rattle.hp_ast.specs.declared.problem.Problem.{Problem}
 use Rattle.hp_ast.specs.Printing.{term_text, relation_text, atom_text, guard_text, head_text, sort_text, var_text, word_text, clause_text, decl_text, line, problem_text}
-use Rattle.hp_read.specs.Token.{is_token, AreTokens}
-use Rattle.hp_read.specs.Symbols.{symbols}
-use Rattle.hp_read.specs.declared.symbol.Symbol.{Symbol as Token}
-use Rattle.hp_read.specs.declared.symbol.Symbol.TheVariants.{Word as word, Name as name, Numeral as numeral}
+use Rattle.hp_grammar.specs.Token.{is_token, AreTokens}
+use Rattle.hp_grammar.specs.Symbols.{symbols}
+use Rattle.hp_grammar.specs.declared.symbol.Symbol.{Symbol as Token}
+use Rattle.hp_grammar.specs.declared.symbol.Symbol.TheVariants.{Word as word, Name as name, Numeral as numeral}
 use Rattle.hp_roundtrip.specs.Printed.{tokens_at, relation_kind, atom_tokens, guard_tokens, head_tokens, sort_kind, sort_tokens, var_tokens, word_tokens, clause_tokens, decl_tokens, problem_tokens}
 use Rattle.hp_roundtrip.proofs.Cutting.{Cuts, lexed}
 use Rattle.hp_roundtrip.proofs.Pieces.{IsFree, IsSign, IsPiece, piece_sign, free_then, free_piece, free_free, sign_sign, sign_then, nothing}

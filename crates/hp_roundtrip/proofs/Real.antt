@@ -22,17 +22,17 @@ use Rattle.hp_ast.specs.declared.problem.Var.{Var}
 use Rattle.hp_ast.specs.Printing.{encloses_sum, encloses_product}
 use Rattle.hp_text.specs.declared.token.Kind.{Kind}
 use Rattle.hp_text.specs.declared.token.Kind.TheVariants as kinds
-use Rattle.hp_read.specs.declared.symbol.Symbol.{Symbol as Token}
-use Rattle.hp_read.specs.declared.symbol.Symbol.TheVariants.{Word as word, Name as name, Numeral as numeral}
-use Rattle.hp_read.specs.Token.{is_word, is_token, AreTokens}
-use Rattle.hp_read.specs.Grammar as terms
-use Rattle.hp_read.specs.Grammar.{SpellsNumber, SpellsTerm, SpellsPart, SpellsFactor, SpellsTerms, whole, fraction, part, minus, sum, difference, number, product, factor, single, call, nothing, group, first}
-use Rattle.hp_read.specs.Bodies.{Separated, one, more, SpellsAtom, SpellsGuard, none, some, SpellsHead, empty, atoms, SpellsBody, body}
-use Rattle.hp_read.specs.Declarations as lines
-use Rattle.hp_read.specs.Declarations.{SpellsSort, SpellsName, called, constants_of, SpellsVariable, variable, SpellsVariables}
-use Rattle.hp_read.specs.Problems as grammar
-use Rattle.hp_read.specs.Problems.{SpellsDeclaration, constants, function, SpellsItem, clause, query, SpellsProfile, missing, given, SpellsDeclarations, SpellsItems, SpellsProblem, problem}
-use Rattle.hp_read.proofs.Machines.{are_both}
+use Rattle.hp_grammar.specs.declared.symbol.Symbol.{Symbol as Token}
+use Rattle.hp_grammar.specs.declared.symbol.Symbol.TheVariants.{Word as word, Name as name, Numeral as numeral}
+use Rattle.hp_grammar.specs.Token.{is_word, is_token, AreTokens}
+use Rattle.hp_grammar.specs.Grammar as terms
+use Rattle.hp_grammar.specs.Grammar.{SpellsNumber, SpellsTerm, SpellsPart, SpellsFactor, SpellsTerms, whole, fraction, part, minus, sum, difference, number, product, factor, single, call, nothing, group, first}
+use Rattle.hp_grammar.specs.Bodies.{Separated, one, more, SpellsAtom, SpellsGuard, none, some, SpellsHead, empty, atoms, SpellsBody, body}
+use Rattle.hp_grammar.specs.Declarations as lines
+use Rattle.hp_grammar.specs.Declarations.{SpellsSort, SpellsName, called, constants_of, SpellsVariable, variable, SpellsVariables}
+use Rattle.hp_grammar.specs.Problems as grammar
+use Rattle.hp_grammar.specs.Problems.{SpellsDeclaration, constants, function, SpellsItem, clause, query, SpellsProfile, missing, given, SpellsDeclarations, SpellsItems, SpellsProblem, problem}
+use Rattle.hp_grammar.proofs.Machines.{are_both}
 use Rattle.hp_roundtrip.specs.Printed.{tokens_at, frac_tokens, enclosed_tokens, relation_kind, atom_tokens, guard_tokens, head_tokens, sort_tokens, var_tokens, clause_tokens, decl_tokens, problem_tokens}
 use Rattle.hp_roundtrip.proofs.Joined.{join_by-append, some_items}
 use Rattle.hp_roundtrip.proofs.Lowest.{is_low, low_tokens, tokens-low}

@@ -1,15 +1,13 @@
 -- The printed text of a problem that some text spells.
-use Rattle.std.proofs.Common.{◌≡◌, ◌∙◌, ◌⊎◌, ℕ, List, Result, Ok, Err, IfOk, IfErr, ap, inl, inr, subst, sym}
+use Rattle.std.proofs.Common.{◌≡◌, ℕ, List, Result, Ok, Err, IfOk, subst, sym}
 use Rattle.hp_ast.specs.declared.problem.Problem.{Problem}
 use Rattle.hp_ast.specs.Printing.{problem_text}
-use Rattle.hp_read.specs.declared.symbol.Symbol.{Symbol as Token}
-use Rattle.hp_read.specs.Faults.{IsWithin}
-use Rattle.hp_read.specs.Problems.{SpellsProblem}
-use Rattle.hp_read.specs.declared.fault.ReadErr.{ReadErr}
-use Rattle.hp_read.specs.declared.fault.ReadErr.TheVariants.{Memory}
+use Rattle.hp_grammar.specs.declared.symbol.Symbol.{Symbol as Token}
+use Rattle.hp_grammar.specs.Faults.{IsWithin}
+use Rattle.hp_grammar.specs.Problems.{SpellsProblem}
+use Rattle.hp_grammar.specs.declared.fault.ReadErr.{ReadErr}
 use Rattle.hp_read.specs.Printed.{SpellsAsPrinted}
-use Rattle.hp_read.specs.Spells.{Spells, IsFault}
-use Rattle.hp_read.proofs.BytesLaws.{no_fault, one_problem}
+use Rattle.hp_grammar.specs.Spells.{Spells}
 use Rattle.hp_roundtrip.specs.Law.{PrintedTextSpells, Reprints}
 use Rattle.hp_roundtrip.proofs.ProblemsCut.{problem_cut}
 use Rattle.hp_roundtrip.proofs.Spelled.{spelled_by_tokens}
@@ -43,8 +41,3 @@ reprints_printed bytes text h = reprints bytes text h.problem h.spelled h.printe
 pub reprints_ok : (bytes : List ℕ) (r : Result (List ℕ) ReadErr) → IfOk r (SpellsAsPrinted bytes) → IfOk r (Reprints bytes)
 reprints_ok bytes (Ok text) h = reprints_printed bytes text h
 reprints_ok bytes (Err e) h = tt
-
-pub reprints_only : (bytes : List ℕ) (r : Result (List ℕ) ReadErr) → IfOk r (SpellsAsPrinted bytes) → IfErr r (IsFault bytes)
-    → (p : Problem) → Spells bytes p → (r ≡ Ok (problem_text p)) ⊎ (r ≡ Err Memory)
-reprints_only bytes (Ok text) h f p spells = inl (ap (λ t. Ok t) (h.printed ∙ ap problem_text (one_problem bytes h.problem p h.spelled spells)))
-reprints_only bytes (Err e) h f p spells = inr (ap (λ x. Err x) (no_fault bytes p e spells f))

@@ -2,15 +2,15 @@
 use Rattle.std.proofs.Common.{◌≡◌, ℕ, Bool, true, false, List, [], ◌∷◌, ◌++◌, Some, refl, sym, ap, subst, ◌∙◌, arith}
 use Rattle.hp_text.specs.declared.token.Kind.{Kind}
 use Rattle.hp_text.specs.declared.token.Kind.TheVariants as kinds
-use Rattle.hp_read.specs.declared.symbol.Symbol.{Symbol as Token}
-use Rattle.hp_read.specs.declared.symbol.Symbol.TheVariants.{Word as word, Name as name, Numeral as numeral}
-use Rattle.hp_read.specs.Token.{same}
-use Rattle.hp_read.specs.declared.counts.Counts.{Counts}
-use Rattle.hp_read.specs.Counts.{counts_of, nothing_counted, new_atom, ends_atom, count_other, count_sign, count_word, count}
-use Rattle.hp_read.specs.Machine.{◌and_then◌, runs}
-use Rattle.hp_read.specs.Bodies.{Separated, one, more}
-use Rattle.hp_read.proofs.Machines.{runs_on}
-use Rattle.hp_roundtrip.proofs.Counting.{runs_split, Follows, IsOther, other_runs, comma_other}
+use Rattle.hp_grammar.specs.declared.symbol.Symbol.{Symbol as Token}
+use Rattle.hp_grammar.specs.declared.symbol.Symbol.TheVariants.{Word as word, Name as name, Numeral as numeral}
+use Rattle.hp_grammar.specs.Token.{same}
+use Rattle.hp_grammar.specs.declared.counts.Counts.{Counts}
+use Rattle.hp_grammar.specs.Counts.{counts_of, nothing_counted, new_atom, ends_atom, count_other, count_sign, count_word, count}
+use Rattle.hp_grammar.specs.Runs.{◌and_then◌, runs}
+use Rattle.hp_grammar.specs.Bodies.{Separated, one, more}
+use Rattle.hp_grammar.proofs.Machines.{runs_on, runs_split}
+use Rattle.hp_roundtrip.proofs.Counting.{Follows, IsOther, other_runs, comma_other}
 
 -- ---- words that end an atom
 abbrev pub IsEnd : Kind → Type 0

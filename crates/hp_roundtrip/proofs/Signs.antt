@@ -10,8 +10,8 @@ use Rattle.hp_text.proofs.Fixeds.{fixed_no_end}
 use Rattle.hp_ast.specs.declared.problem.Cmp.{Cmp}
 use Rattle.hp_ast.specs.declared.problem.Cmp.TheVariants.{Le, Lt, Eq, Ne, Ge, Gt}
 use Rattle.hp_ast.specs.Printing.{relation_text}
-use Rattle.hp_read.specs.declared.symbol.Symbol.TheVariants.{Word as word}
-use Rattle.hp_read.specs.Symbols.{symbol_by}
+use Rattle.hp_grammar.specs.declared.symbol.Symbol.TheVariants.{Word as word}
+use Rattle.hp_grammar.specs.Symbols.{symbol_by}
 use Rattle.hp_roundtrip.specs.Printed.{relation_kind}
 use Rattle.hp_roundtrip.proofs.Cutting.{bare, Cuts, cuts_from, cuts_join}
 use Rattle.hp_roundtrip.proofs.Pieces.{Stops, IsSign, sign_sign}

@@ -8,11 +8,11 @@ use Rattle.hp_text.specs.declared.token.Token.{Token as Placed}
 use Rattle.hp_text.specs.Lexes.{IsSaid, AreSaid, said_by, said, all_said}
 use Rattle.hp_text.specs.Placed.{text_of}
 use Rattle.hp_text.proofs.Saying.{all_say}
-use Rattle.hp_read.specs.Token.{is_token, AreTokens}
-use Rattle.hp_read.specs.Symbols.{symbol_by, symbol_of, symbols}
-use Rattle.hp_read.specs.Faults.{IsWithin}
-use Rattle.hp_read.specs.Problems.{SpellsProblem}
-use Rattle.hp_read.specs.Spells.{Spells}
+use Rattle.hp_grammar.specs.Token.{is_token, AreTokens}
+use Rattle.hp_grammar.specs.Symbols.{symbol_by, symbol_of, symbols}
+use Rattle.hp_grammar.specs.Faults.{IsWithin}
+use Rattle.hp_grammar.specs.Problems.{SpellsProblem}
+use Rattle.hp_grammar.specs.Spells.{Spells}
 use Rattle.hp_roundtrip.specs.Printed.{problem_tokens}
 use Rattle.hp_roundtrip.proofs.Derived.{problem_derived}
 use Rattle.hp_roundtrip.proofs.Real.{problem_real}

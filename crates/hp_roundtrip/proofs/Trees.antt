@@ -8,9 +8,9 @@ use Rattle.hp_ast.specs.declared.printing.Place.TheVariants.{Whole, Operand, Fac
 use Rattle.hp_ast.specs.declared.term.Term.{Term, fold-roll-Term, roll-Term, map-Term}
 use Rattle.hp_ast.specs.declared.term.Term.TheOpen.{Term-F}
 use Rattle.hp_ast.specs.Printing.{encloses_sum, encloses_product}
-use Rattle.hp_read.specs.declared.symbol.Symbol.{Symbol as Token}
-use Rattle.hp_read.specs.declared.symbol.Symbol.TheVariants.{Word as word, Name as name}
-use Rattle.hp_read.specs.Tree.{number_of, null, named, apply, add, sub, neg, scale}
+use Rattle.hp_grammar.specs.declared.symbol.Symbol.{Symbol as Token}
+use Rattle.hp_grammar.specs.declared.symbol.Symbol.TheVariants.{Word as word, Name as name}
+use Rattle.hp_grammar.specs.Tree.{number_of, null, named, apply, add, sub, neg, scale}
 use Rattle.hp_roundtrip.specs.Printed.{tokens_at, tokens_step, frac_tokens, enclosed_tokens}
 use Rattle.hp_roundtrip.proofs.Joined.{join_by-map}
 

@@ -12,16 +12,16 @@ use Rattle.hp_ast.specs.declared.problem.Sort.{Sort}
 use Rattle.hp_ast.specs.declared.problem.Var.{Var}
 use Rattle.hp_text.specs.declared.token.Kind.{Kind}
 use Rattle.hp_text.specs.declared.token.Kind.TheVariants as kinds
-use Rattle.hp_read.specs.declared.symbol.Symbol.{Symbol as Token}
-use Rattle.hp_read.specs.declared.symbol.Symbol.TheVariants.{Word as word, Numeral as numeral}
-use Rattle.hp_read.specs.Token.{same}
-use Rattle.hp_read.specs.Counts.{ends_atom, count_other, count_sign, count_word, nothing_counted}
-use Rattle.hp_read.specs.Faults.{IsWithin}
-use Rattle.hp_read.specs.Bodies.{relation, atom_of, one, more, SpellsAtom, SpellsAtoms, none, some, SpellsHead, empty, atoms, SpellsBody, body}
-use Rattle.hp_read.specs.Declarations as lines
-use Rattle.hp_read.specs.Declarations.{SpellsSort, num, idx, ptr, SpellsName, called, SpellsConstants, SpellsFunction, SpellsVariable, variable, SpellsVariables}
-use Rattle.hp_read.specs.Problems as grammar
-use Rattle.hp_read.specs.Problems.{SpellsDeclaration, constants, function, SpellsItem, clause, query, clause_of, SpellsProfile, missing, given, SpellsDeclarations, SpellsItems, SpellsProblem, problem}
+use Rattle.hp_grammar.specs.declared.symbol.Symbol.{Symbol as Token}
+use Rattle.hp_grammar.specs.declared.symbol.Symbol.TheVariants.{Word as word, Numeral as numeral}
+use Rattle.hp_grammar.specs.Token.{same}
+use Rattle.hp_grammar.specs.Counts.{ends_atom, count_other, count_sign, count_word, nothing_counted}
+use Rattle.hp_grammar.specs.Faults.{IsWithin}
+use Rattle.hp_grammar.specs.Bodies.{relation, atom_of, one, more, SpellsAtom, SpellsAtoms, none, some, SpellsHead, empty, atoms, SpellsBody, body}
+use Rattle.hp_grammar.specs.Declarations as lines
+use Rattle.hp_grammar.specs.Declarations.{SpellsSort, num, idx, ptr, SpellsName, called, SpellsConstants, SpellsFunction, SpellsVariable, variable, SpellsVariables}
+use Rattle.hp_grammar.specs.Problems as grammar
+use Rattle.hp_grammar.specs.Problems.{SpellsDeclaration, constants, function, SpellsItem, clause, query, clause_of, SpellsProfile, missing, given, SpellsDeclarations, SpellsItems, SpellsProblem, problem}
 use Rattle.hp_roundtrip.specs.Printed.{relation_kind, atom_tokens, guard_tokens, head_tokens, var_tokens, clause_tokens, decl_tokens, problem_tokens}
 use Rattle.hp_roundtrip.proofs.Joined.{join_by-append, some_items, regrouped}
 use Rattle.hp_roundtrip.proofs.Derived.{guard-some, head-some, variables_derived, declarations_derived}

@@ -17,7 +17,7 @@ use Rattle.hp_text.specs.Longest.{is_word, is_digits}
 use Rattle.hp_text.proofs.LongestTokens.{begins_with}
 use Rattle.hp_text.proofs.Pieces.{front_word, front_digits}
 use Rattle.hp_text.proofs.Runs.{both, both_true}
-use Rattle.hp_read.specs.declared.symbol.Symbol.TheVariants.{Word as word, Name as name, Numeral as numeral}
+use Rattle.hp_grammar.specs.declared.symbol.Symbol.TheVariants.{Word as word, Name as name, Numeral as numeral}
 use Rattle.hp_roundtrip.proofs.Cutting.{bare}
 use Rattle.hp_roundtrip.proofs.Pieces.{Stops, IsPiece}
 use Rattle.hp_roundtrip.proofs.Signs.{one}

@@ -4,12 +4,13 @@
 ghost use Rattle.std.specs.Prelude.{Ok, Err, ◌≡◌, ◌⊎◌, IfOk, IfErr};
 ghost use Rattle.hp_ast.specs.Printing.{problem_text};
 ghost use Rattle.hp_ast.specs.declared.problem.Problem.{Problem as Spelled};
-ghost use Rattle.hp_read.specs.Spells.{Spells, IsFault};
-ghost use Rattle.hp_read.specs.declared.fault.ReadErr.TheVariants.{Memory};
+ghost use Rattle.hp_grammar.specs.Spells.{Spells, IsFault};
+ghost use Rattle.hp_grammar.specs.declared.fault.ReadErr.TheVariants.{Memory};
 ghost use Rattle.hp_roundtrip.specs.Law.{Reprints};
 
+use hp_grammar::ReadErr;
 use hp_num::Text;
-use hp_read::{ReadErr, transcribe};
+use hp_read::transcribe;
 use std::alloc::Global;
 
 /// The one printed text of the problem that the bytes spell: it spells the same problem.

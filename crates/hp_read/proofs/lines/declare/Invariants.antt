@@ -1,5 +1,5 @@
 use Rattle.std.proofs.Common.{◌≡◌, ◌++◌, take}
-use Rattle.hp_read.specs.Declarations.{constants_of}
+use Rattle.hp_grammar.specs.Declarations.{constants_of}
 use Rattle.hp_read.proofs.lines.declare.Given as goal
 
 abbrev pub invariant-loop-name : goal.invariant-loop-name

@@ -1,7 +1,4 @@
 -- One token more: it goes on, or it is the fault.
-use Rattle.std.proofs.Common.{sym, subst}
-use Rattle.hp_read.specs.Spells.{IsReading}
-use Rattle.hp_read.proofs.Bytes.{reading_goes}
 use Rattle.hp_read.proofs.Printing.{faults_at, steps_on}
 use Rattle.hp_read.proofs.reader.advance.Goals as goal
 

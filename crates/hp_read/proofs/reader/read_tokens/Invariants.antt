@@ -1,5 +1,5 @@
 use Rattle.std.proofs.Common.{◌≡◌, ◌-◌, length}
-use Rattle.hp_read.specs.Spells.{IsReading}
+use Rattle.hp_read.specs.Reading.{IsReading}
 use Rattle.hp_read.proofs.reader.read_tokens.Given as goal
 
 abbrev pub invariant-loop-reading : goal.invariant-loop-reading

@@ -1,7 +1,4 @@
 -- One token more, behind which the clauses before the last one are given up where an item has ended.
-use Rattle.std.proofs.Common.{◌≡◌, ap, subst, sym}
-use Rattle.hp_read.specs.Printed.{IsPrinting}
-use Rattle.hp_read.specs.declared.stage.Stage.TheVariants.{Whole}
 use Rattle.hp_read.proofs.Printing.{printing_fails, printing_moves, printing_given}
 use Rattle.hp_read.proofs.transcript.go_on.Goals.{in-Whole, in_default}
 use Rattle.hp_read.proofs.transcript.go_on.Goals as goal

@@ -1,8 +1,6 @@
--- Where no token stands the fault is that of the bytes.
-use Rattle.hp_read.proofs.Printing.{no_token_printing}
+-- What it answers where the bytes spell a problem follows from the two other clauses.
+use Rattle.hp_read.proofs.Printing.{printed_only}
 use Rattle.hp_read.proofs.transcript.transcribe.Goals as goal
 
-pub returns-in_err-token-clause-fault : goal.returns-in_err-token-clause-fault
-returns-in_err-token-clause-fault c =
-    let known = c.loop-out.invariant in
-    no_token_printing _ _ _ _ _ _ _ _ _ known.printing known.bytes known.place c.in_err-token.ensures.token c.from_residual-in_err-token.ensures.1
+pub returns-clause-only : goal.returns-clause-only
+returns-clause-only c = λ p s. printed_only _ c.print_tokens.result c.print_tokens.ensures.found c.print_tokens.ensures.fault p s

@@ -1,6 +1,6 @@
 -- A token that passes a limit may stand there by the grammar.
 use Rattle.std.proofs.Common.{◌≡◌, Some, None, refl, sym, subst}
-use Rattle.hp_read.specs.Counts.{count}
+use Rattle.hp_grammar.specs.Counts.{count}
 use Rattle.hp_read.specs.Top.{top_step}
 use Rattle.hp_read.proofs.reader.Reading.step.Goals as goal
 

@@ -1,0 +1,4 @@
+pub mod Machine
+pub mod Given
+pub mod BodyMachine
+pub mod Moves

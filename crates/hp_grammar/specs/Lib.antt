@@ -1,0 +1,11 @@
+pub mod Token
+pub mod Tree
+pub mod Grammar
+pub mod Bodies
+pub mod Declarations
+pub mod Problems
+pub mod Runs
+pub mod Counts
+pub mod Faults
+pub mod Symbols
+pub mod Spells
