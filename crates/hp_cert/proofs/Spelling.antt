@@ -3,7 +3,7 @@ use Rattle.std.proofs.Common.{◌≡◌, ℕ, zero, suc, ◌+◌, ◌-◌, ◌<�
 use Rattle.std.specs.List.{All, Contains}
 use Rattle.std.proofs.lemmas.Int.{ints}
 use Rattle.std.proofs.lemmas.List.{length-map}
-use Rattle.std.proofs.lemmas.List.Elements.{All-nil, All-cons, All-append, All-contains, All-map, All-replicate, Contains-append_left}
+use Rattle.std.proofs.lemmas.List.Elements.{All-nil, All-cons, All-append, All-contains, All-map, All-replicate, All-weaker, Contains-append_left}
 use Rattle.std.proofs.lemmas.Option.{slice_get_within}
 use Rattle.hp_base.specs.declared.line.Line.{Line}
 use Rattle.hp_base.specs.declared.literal.Name.{Name}
@@ -26,9 +26,10 @@ use Rattle.hp_leaf.specs.Pointers.{JoinsAll}
 use Rattle.hp_leaf.specs.Tree.{lits_at, lit_at, Place, place_lits, children, Reads, Any}
 use Rattle.hp_cert.specs.declared.refutation.Entry.{Entry}
 use Rattle.hp_cert.specs.declared.refutation.Refutation.{Refutation}
-use Rattle.hp_cert.specs.Entries.{entry_number, first_defs, all_defs, AreSplitLines}
+use Rattle.hp_cert.specs.Entries.{entry_number, first_defs, all_defs, AreSplitLines, IsLineOf}
 use Rattle.hp_cert.specs.Lines.{def_text}
-use Rattle.hp_cert.specs.Spelled.{IsNumber, IsShare, AreShares, IsStep, AreSteps, IsSpelledLeaf, IsSpelledNode, HasNumber, AreNumbered, IsSpelled, IsReading}
+use Rattle.hp_cert.specs.Spelled.{IsNumber, IsShare, AreShares, IsStep, AreSteps, IsSpelledLeaf, IsSpelledNode, HasNumber, IsOnOneLine, HasOneLine, AreListed, AreOnOneLine, IsSpelled, IsReading}
+use Rattle.hp_cert.proofs.OneLine.{def_on_one_line, line_on_one_line}
 use Rattle.hp_cert.proofs.Splitting.{contains_first, contains_later, defs_rise, rises}
 
 -- ---- leaves
@@ -116,9 +117,17 @@ tree_spelled lines tree r few split =
     (All-replicate IsSpelledNode (length r.waiting) Unopened tt))
 
 -- ---- what `entries` lists
-defs_numbered : (names : NameList) (n : ℕ) → n ≤ 4294967295 → AreNumbered (first_defs names n)
-defs_numbered names n few = record { rising = rises 0 (map entry_number (first_defs names n)) (suc n) (defs_rise names n); each = each n few }
+defs_listed : (names : NameList) → AreOnOneLine names → (n : ℕ) → n ≤ 4294967295 → AreListed (first_defs names n)
+defs_listed names named n few = record {
+  rising = rises 0 (map entry_number (first_defs names n)) (suc n) (defs_rise names n);
+  numbers = each n few;
+  texts = lines n;
+}
   where
+    lines : (n : ℕ) → All HasOneLine (first_defs names n)
+    lines zero = All-nil HasOneLine
+    lines (suc n) = All-append HasOneLine (first_defs names n) _ (lines n) (All-cons HasOneLine (record { number = suc n; text = def_text names (suc n) }) [] (def_on_one_line names named (suc n)) (All-nil HasOneLine))
+
     each : (n : ℕ) → n ≤ 4294967295 → All HasNumber (first_defs names n)
     each zero h = All-nil HasNumber
     each (suc n) h = All-append HasNumber (first_defs names n) _ (each n (omega (arith, h))) (All-cons HasNumber (record { number = suc n; text = def_text names (suc n) }) [] (omega arith, h) (All-nil HasNumber))
@@ -126,10 +135,14 @@ defs_numbered names n few = record { rising = rises 0 (map entry_number (first_d
 number_listed : (entries : List Entry) (n : ℕ) → All HasNumber entries → Contains (map entry_number entries) n → IsNumber n
 number_listed entries n h c = All-contains IsNumber (map entry_number entries) n (All-map IsNumber entry_number entries h) c
 
-pub spelled : (g : Ground) (r : Refutation) → r.defs ≡ all_defs g.names → length g.names.definitions ≤ 4294967295 → AreSplitLines g r.tree r.lines → All HasNumber r.lines
+pub spelled : (g : Ground) → AreOnOneLine g.names → (r : Refutation) → r.defs ≡ all_defs g.names → length g.names.definitions ≤ 4294967295 → AreSplitLines g r.tree r.lines → All HasNumber r.lines
     → length r.tree ≤ 4294967295 → IsReading g.lines r.tree → IsSpelled r
-spelled g r defs count lines numbers few reading = record {
-  defs = subst AreNumbered (sym defs) (defs_numbered g.names (length g.names.definitions) count);
-  lines = record { rising = lines.rising; each = numbers };
+spelled g named r defs count lines numbers few reading = record {
+  defs = subst AreListed (sym defs) (defs_listed g.names named (length g.names.definitions) count);
+  lines = record {
+    rising = lines.rising;
+    numbers = numbers;
+    texts = All-weaker (IsLineOf g) HasOneLine (λ entry h. subst IsOnOneLine (sym h.1) (line_on_one_line g named entry.number)) r.lines lines.texts;
+  };
   tree = tree_spelled g.lines r.tree reading few (λ n c. number_listed r.lines n numbers ((lines.split n).1 c));
 }

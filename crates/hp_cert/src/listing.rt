@@ -8,7 +8,7 @@ ghost use Rattle.hp_leaf.specs.Tree.{IsClosed};
 ghost use Rattle.hp_cert.specs.Entries.{all_defs, marked_lines, with_mark, with_marks, AreSplitLines, SplitsLine};
 ghost use Rattle.hp_cert.specs.Named.{DefIsNamed, GroundIsNamed};
 ghost use Rattle.hp_cert.specs.Refutes.{Refutes};
-ghost use Rattle.hp_cert.specs.Spelled.{HasNumber, IsReading, IsSpelled};
+ghost use Rattle.hp_cert.specs.Spelled.{AreOnOneLine, HasNumber, IsReading, IsSpelled};
 
 use crate::ground::{body_text, line_text};
 use crate::refutation::{Entry, Refutation};
@@ -19,7 +19,7 @@ use std::alloc::{AllocError, Global};
 
 /// What a tree of splits, each of a line of the problem, lists of it: all definitions, the lines that the tree splits
 /// and no others in rising order, each with its text, and the tree. Where the tree is closed, this refutes the problem.
-/// Where its leaves are valid, all of this is spelled, so that its text can be read back. An `Err` comes where memory is
+/// Where its leaves are valid, and no name has a line feed, all of this is spelled, so that its text can be read back. An `Err` comes where memory is
 /// short, or the tree has more than 4,294,967,295 nodes.
 pub fn entries(alloc: Global, g: &Ground, tree: List<Node>) -> Result<Refutation, AllocError>
     requires named { GroundIsNamed g.now }
@@ -28,7 +28,7 @@ pub fn entries(alloc: Global, g: &Ground, tree: List<Node>) -> Result<Refutation
     ensures lines { IfOk result (λ r. AreSplitLines g.now tree r.lines) }
     ensures tree { IfOk result (λ r. r.tree ≡ tree) }
     ensures refutes { IsClosed g.now.lines tree → IfOk result (Refutes g.now) }
-    ensures spelled { IsReading g.now.lines tree → IfOk result IsSpelled }
+    ensures spelled { AreOnOneLine g.now.names → IsReading g.now.lines tree → IfOk result IsSpelled }
 {
     if tree.len() > u32::MAX as usize {
         return Err(AllocError);
