@@ -1,7 +1,7 @@
 -- The texts of lines and definitions are on one line where the names are.
-use Rattle.std.proofs.Common.{◌≡◌, ◌≢◌, ℕ, zero, suc, ◌+◌, ◌-◌, ◌/◌, ◌%◌, ◌==◌, ◌<◌, ℤ, pos, negsuc, List, [], ◌∷◌, ◌++◌, length, Bool, true, false, ◌&&◌, not, nat_eq, cond, Option, Some, None, refl, subst, arith}
-use Rattle.std.specs.Prelude.{codes, slice_get, if◌then◌else◌, int_lt, nat_lt, unsigned_abs}
-use Rattle.std.specs.List.{All, flat_map, join_by}
+use Rattle.std.proofs.Common.{◌≡◌, ℕ, zero, suc, ◌+◌, ◌-◌, ◌/◌, ◌%◌, ◌==◌, ℤ, pos, negsuc, List, [], ◌∷◌, ◌++◌, length, Bool, true, false, ◌&&◌, not, nat_eq, cond, Option, Some, None, refl, subst, arith}
+use Rattle.std.specs.Prelude.{codes, slice_get, int_lt, nat_lt, unsigned_abs}
+use Rattle.std.specs.List.{flat_map, join_by}
 use Rattle.std.specs.Fmt.{decimal, digits, digits_onto, digit_glyph, signed_decimal}
 use Rattle.std.proofs.lemmas.Bool.{and_parts, eq-eqb}
 use Rattle.std.proofs.lemmas.List.Elements.{All-nil, All-cons, All-append}
@@ -15,7 +15,6 @@ use Rattle.hp_base.specs.declared.literal.Rel.TheVariants.{Le, Lt, Eq}
 use Rattle.hp_base.specs.declared.literal.Lit.{Lit}
 use Rattle.hp_base.specs.declared.literal.Lit.TheVariants.{Num, Idx, Ptr}
 use Rattle.hp_base.specs.declared.line.LinPart.{LinPart}
-use Rattle.hp_base.specs.declared.line.Lin.{Lin}
 use Rattle.hp_base.specs.declared.line.Arg.{Arg}
 use Rattle.hp_base.specs.declared.line.Arg.TheVariants.{Number, Named, Index, Null}
 use Rattle.hp_base.specs.declared.line.Body.{Body}

@@ -1,5 +1,5 @@
 -- What is listed of a reading is spelled: its leaves are, since they are valid, and its entries are numbered.
-use Rattle.std.proofs.Common.{◌≡◌, ℕ, zero, suc, ◌+◌, ◌-◌, ◌<◌, ◌≤◌, ◌^◌, ◌⊎◌, inl, inr, List, [], ◌∷◌, ◌++◌, length, map, pos, ◌<ℤ◌, unsigned_abs, replicate, Option, arith, refl, sym, subst, ap, ◌∙◌, length-append}
+use Rattle.std.proofs.Common.{◌≡◌, ℕ, zero, suc, ◌+◌, ◌-◌, ◌<◌, ◌≤◌, ◌^◌, ◌⊎◌, inl, inr, List, [], ◌∷◌, ◌++◌, length, map, pos, ◌<ℤ◌, unsigned_abs, replicate, Option, arith, refl, sym, subst, ap, length-append}
 use Rattle.std.specs.List.{All, Contains}
 use Rattle.std.proofs.lemmas.Int.{ints}
 use Rattle.std.proofs.lemmas.List.{length-map}
@@ -15,8 +15,8 @@ use Rattle.hp_base.specs.Names.{NameList}
 use Rattle.hp_base.specs.declared.proof.Choice.{Choice}
 use Rattle.hp_base.specs.declared.proof.Share.{Share}
 use Rattle.hp_base.specs.declared.proof.Step.{Step}
-use Rattle.hp_base.specs.Cycle.{IsLit, AreRowsOf, bound_sum, IsValidIdx}
-use Rattle.hp_base.specs.Leaf.{Taken, AreTaken, sum_bound, HasStrict, IsValidNum}
+use Rattle.hp_base.specs.Cycle.{IsLit, AreRowsOf, bound_sum}
+use Rattle.hp_base.specs.Leaf.{Taken, AreTaken, sum_bound, HasStrict}
 use Rattle.hp_leaf.specs.declared.tree.LeafProof.{LeafProof}
 use Rattle.hp_leaf.specs.declared.tree.LeafProof.TheVariants as leaf
 use Rattle.hp_leaf.specs.declared.tree.Node.{Node}
@@ -28,7 +28,7 @@ use Rattle.hp_cert.specs.declared.refutation.Entry.{Entry}
 use Rattle.hp_cert.specs.declared.refutation.Refutation.{Refutation}
 use Rattle.hp_cert.specs.Entries.{entry_number, first_defs, all_defs, AreSplitLines, IsLineOf}
 use Rattle.hp_cert.specs.Lines.{def_text}
-use Rattle.hp_cert.specs.Spelled.{IsNumber, IsShare, AreShares, IsStep, AreSteps, IsSpelledLeaf, IsSpelledNode, HasNumber, IsOnOneLine, HasOneLine, AreListed, AreOnOneLine, IsSpelled, IsReading}
+use Rattle.hp_cert.specs.Spelled.{IsNumber, IsShare, IsStep, IsSpelledLeaf, IsSpelledNode, HasNumber, IsOnOneLine, HasOneLine, AreListed, AreOnOneLine, IsSpelled, IsReading}
 use Rattle.hp_cert.proofs.OneLine.{def_on_one_line, line_on_one_line}
 use Rattle.hp_cert.proofs.Splitting.{contains_first, contains_later, defs_rise, rises}
 
