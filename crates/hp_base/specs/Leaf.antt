@@ -1,5 +1,5 @@
 -- A combination of literals over fractions that adds to nothing below 0: the evidence against them.
-use Rattle.std.specs.Prelude.{◌≡◌, ℕ, ◌<◌, List, [], ◌∷◌, ◌⊎◌, ℤ, pos, ◌+ℤ◌, ◌*ℤ◌, ◌<ℤ◌, nat_eq, if◌then◌else◌}
+use Rattle.std.specs.Prelude.{◌≡◌, ℕ, ◌<◌, ◌^◌, List, [], ◌∷◌, ◌⊎◌, ℤ, pos, ◌+ℤ◌, ◌*ℤ◌, ◌<ℤ◌, unsigned_abs, nat_eq, if◌then◌else◌}
 use Rattle.std.specs.List.{All}
 use Rattle.hp_base.specs.declared.literal.Rel.TheVariants.{Lt, Eq}
 use Rattle.hp_base.specs.declared.literal.Part.{Part}
@@ -15,10 +15,12 @@ abbrev pub coefficient : ℕ → List Part → ℤ
 coefficient n [] = pos 0
 coefficient n (p ∷ ps) = (if nat_eq p.name.0 n then p.coef else pos 0) +ℤ coefficient n ps
 
--- a num literal with its multiplier, which is positive unless the literal is an equality
+-- a num literal with its multiplier, which has a magnitude of at most 2^127 - 1, and is positive unless the literal is an
+-- equality
 pub record Taken : Type 0 where
   pub lit : NumLit
   pub times : ℤ
+  pub narrow : unsigned_abs times < 2 ^ 127
   pub sign : (pos 0 <ℤ times) ⊎ (lit.rel ≡ Eq)
 
 abbrev pub IsTaken : List Lit → Share → Taken → Type 0

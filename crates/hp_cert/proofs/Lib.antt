@@ -1,2 +1,4 @@
 pub mod Join
 pub mod Splitting
+pub mod OneLine
+pub mod Spelling

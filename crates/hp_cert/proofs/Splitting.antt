@@ -1,9 +1,9 @@
 -- The lines that are marked are those that the tree splits, and their entries rise.
-use Rattle.std.proofs.Common.{◌≡◌, ℕ, zero, suc, ◌+◌, ◌-◌, ◌<◌, ◌≤◌, ◌⊎◌, ◌↔◌, List, [], ◌∷◌, ◌++◌, length, map, Bool, true, false, if◌then◌else◌, get_or, set, replicate, arith, ap, sym, subst, refl, ◌∙◌, append-nil, inl, inr}
+use Rattle.std.proofs.Common.{◌≡◌, ℕ, zero, suc, ◌-◌, ◌<◌, ◌≤◌, ◌⊎◌, List, [], ◌∷◌, ◌++◌, length, map, Bool, true, false, if◌then◌else◌, get_or, set, replicate, arith, ap, sym, subst, refl, ◌∙◌, append-nil, inl, inr}
 use Rattle.std.specs.List.{All, Contains}
 use Rattle.std.proofs.lemmas.Bool.{true≢false}
-use Rattle.std.proofs.lemmas.List.{length-replicate, map-append, get_or-replicate, get_or-set_same, get_or-set_other, length-set}
-use Rattle.std.proofs.lemmas.List.Elements.{All-nil, All-cons, All-head, All-tail, All-append, All-weaker, All-contains, Contains-push, Contains-push_cases, Contains-append_left}
+use Rattle.std.proofs.lemmas.List.{length-replicate, map-append, get_or-set_same, length-set}
+use Rattle.std.proofs.lemmas.List.Elements.{All-nil, All-cons, All-head, All-tail, All-append, All-contains, Contains-push, Contains-push_cases, Contains-append_left}
 use Rattle.hp_base.specs.declared.names.Ground.{Ground}
 use Rattle.hp_base.specs.Names.{NameList}
 use Rattle.hp_leaf.specs.declared.tree.Node.{Node}
@@ -54,10 +54,10 @@ contains_cases : {X : Type 0} (x : X) (xs : List X) (y : X) → Contains (x ∷ 
 contains_cases x xs y (zero, h, e) = inl e
 contains_cases x xs y (suc k, h, e) = inr (k, omega (arith, h), e)
 
-contains_first : {X : Type 0} (x : X) (xs : List X) (y : X) → x ≡ y → Contains (x ∷ xs) y
+pub contains_first : {X : Type 0} (x : X) (xs : List X) (y : X) → x ≡ y → Contains (x ∷ xs) y
 contains_first x xs y e = (0, omega arith, e)
 
-contains_later : {X : Type 0} (x : X) (xs : List X) (y : X) → Contains xs y → Contains (x ∷ xs) y
+pub contains_later : {X : Type 0} (x : X) (xs : List X) (y : X) → Contains xs y → Contains (x ∷ xs) y
 contains_later x xs y (k, h, e) = (suc k, omega (arith, h), e)
 
 split_is_marked : (marks : List Bool) (nodes : List Node) (n : ℕ) → n < length marks → Contains nodes (Split (suc n)) → get_or (with_marks marks nodes) n false ≡ true
@@ -85,7 +85,7 @@ marked_is_split g marks (node ∷ nodes) n s h = elim (marked_is_split g (with_m
 -- ---- the entries of marked lines
 
 -- numbers rise from above one bound to below another
-abbrev RisesWithin : ℕ → List ℕ → ℕ → Type 0
+abbrev pub RisesWithin : ℕ → List ℕ → ℕ → Type 0
 RisesWithin low [] high = low < high
 RisesWithin low (n ∷ ns) high = (low < n) × RisesWithin n ns high
 
@@ -97,11 +97,11 @@ rises_more : (low : ℕ) (ns : List ℕ) (high : ℕ) → RisesWithin low ns hig
 rises_more low [] high h = (h, omega arith)
 rises_more low (n ∷ ns) high h = (h.0, rises_more n ns high h.1)
 
-rises : (low : ℕ) (ns : List ℕ) (high : ℕ) → RisesWithin low ns high → RisesFrom low ns
+pub rises : (low : ℕ) (ns : List ℕ) (high : ℕ) → RisesWithin low ns high → RisesFrom low ns
 rises low [] high h = tt
 rises low (n ∷ ns) high h = (h.0, rises n ns high h.1)
 
-abbrev numbers : List Entry → List ℕ
+abbrev pub numbers : List Entry → List ℕ
 numbers entries = map entry_number entries
 
 -- one entry more, or none
@@ -187,6 +187,10 @@ split_lines g tree marks s e = record {
   split = λ n. (listed_is_split g tree marks s e n, split_is_listed g tree marks s e n);
   texts = lines_are_lines g marks (length marks) (omega (arith, ap length e, count_marks g tree));
 }
+
+pub defs_rise : (names : NameList) (n : ℕ) → RisesWithin 0 (numbers (first_defs names n)) (suc n)
+defs_rise names zero = omega arith
+defs_rise names (suc n) = rises_step (first_defs names n) true (record { number = suc n; text = def_text names (suc n) }) (defs_rise names n)
 
 pub defs_are_defs : (names : NameList) (n : ℕ) → n ≤ length names.definitions → All (IsDefOf names) (first_defs names n)
 defs_are_defs names zero h = All-nil (IsDefOf names)

@@ -1,5 +1,5 @@
 -- The texts of names, of linear forms and of arguments.
-use Rattle.std.specs.Prelude.{ℕ, Bool, true, false, ◌&&◌, if◌then◌else◌, nat_eq, ◌+◌, ◌-◌, List, [], ◌∷◌, ◌++◌, length, codes, ℤ, pos, int_lt, unsigned_abs, Option, Some, None, slice_get}
+use Rattle.std.specs.Prelude.{ℕ, ◌&&◌, if◌then◌else◌, nat_eq, ◌+◌, ◌-◌, List, [], ◌∷◌, ◌++◌, length, codes, ℤ, pos, int_lt, unsigned_abs, Option, Some, None, slice_get}
 use Rattle.std.specs.List.{flat_map}
 use Rattle.std.specs.Fmt.{decimal, signed_decimal}
 use Rattle.hp_math.specs.Rational.{ℚ}

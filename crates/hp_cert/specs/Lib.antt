@@ -5,5 +5,6 @@ pub mod Trees
 pub mod Refutation
 pub mod Named
 pub mod Entries
+pub mod Spelled
 pub mod Refutes
 pub mod Overflow

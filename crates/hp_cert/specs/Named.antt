@@ -1,13 +1,11 @@
 -- Ground problems whose lines and definitions speak of their own names and functions alone.
-use Rattle.std.specs.Prelude.{ℕ, ◌<◌, List, length, Option, Some, None}
+use Rattle.std.specs.Prelude.{◌<◌, length, Option, Some, None}
 use Rattle.std.specs.List.{All}
 use Rattle.hp_base.specs.declared.literal.Name.{Name}
-use Rattle.hp_base.specs.declared.literal.Part.{Part}
 use Rattle.hp_base.specs.declared.literal.Lit.{Lit}
 use Rattle.hp_base.specs.declared.literal.Lit.TheVariants.{Num, Idx, Ptr}
 use Rattle.hp_base.specs.declared.line.Arg.{Arg}
 use Rattle.hp_base.specs.declared.line.Arg.TheVariants.{Number, Named, Index, Null}
-use Rattle.hp_base.specs.declared.line.LinPart.{LinPart}
 use Rattle.hp_base.specs.declared.line.Line.{Line}
 use Rattle.hp_base.specs.declared.line.Origin.{Origin}
 use Rattle.hp_base.specs.declared.line.Origin.TheVariants.{Ground as FromGround, At, Equal, SumOf}

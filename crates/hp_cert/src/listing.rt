@@ -2,12 +2,13 @@
 //!
 //! The lines are found by one pass over the tree, which marks them, and one pass over the marks.
 
-ghost use Rattle.std.specs.Prelude.{◌≡◌, false, length, replicate, IfOk};
+ghost use Rattle.std.specs.Prelude.{◌≡◌, ◌≤◌, false, length, replicate, IfOk};
 ghost use Rattle.std.specs.List.{All};
 ghost use Rattle.hp_leaf.specs.Tree.{IsClosed};
 ghost use Rattle.hp_cert.specs.Entries.{all_defs, marked_lines, with_mark, with_marks, AreSplitLines, SplitsLine};
 ghost use Rattle.hp_cert.specs.Named.{DefIsNamed, GroundIsNamed};
 ghost use Rattle.hp_cert.specs.Refutes.{Refutes};
+ghost use Rattle.hp_cert.specs.Spelled.{AreOnOneLine, HasNumber, IsReading, IsSpelled};
 
 use crate::ground::{body_text, line_text};
 use crate::refutation::{Entry, Refutation};
@@ -18,7 +19,8 @@ use std::alloc::{AllocError, Global};
 
 /// What a tree of splits, each of a line of the problem, lists of it: all definitions, the lines that the tree splits
 /// and no others in rising order, each with its text, and the tree. Where the tree is closed, this refutes the problem.
-/// An `Err` comes where memory is short.
+/// Where its leaves are valid, and no name has a line feed, all of this is spelled, so that its text can be read back. An `Err` comes where memory is
+/// short, or the tree has more than 4,294,967,295 nodes.
 pub fn entries(alloc: Global, g: &Ground, tree: List<Node>) -> Result<Refutation, AllocError>
     requires named { GroundIsNamed g.now }
     requires splits { All (SplitsLine g.now) tree }
@@ -26,7 +28,11 @@ pub fn entries(alloc: Global, g: &Ground, tree: List<Node>) -> Result<Refutation
     ensures lines { IfOk result (λ r. AreSplitLines g.now tree r.lines) }
     ensures tree { IfOk result (λ r. r.tree ≡ tree) }
     ensures refutes { IsClosed g.now.lines tree → IfOk result (Refutes g.now) }
+    ensures spelled { AreOnOneLine g.now.names → IsReading g.now.lines tree → IfOk result IsSpelled }
 {
+    if tree.len() > u32::MAX as usize {
+        return Err(AllocError);
+    }
     let defs = defined(alloc, &g.names)?;
     let marks = marked(alloc, g, tree.as_slice())?;
     let lines = listed(alloc, g, marks.as_slice())?;
@@ -36,7 +42,8 @@ pub fn entries(alloc: Global, g: &Ground, tree: List<Node>) -> Result<Refutation
 /// All definitions with their texts.
 fn defined(alloc: Global, names: &Names) -> Result<List<Entry>, AllocError>
     requires { All (DefIsNamed names.now) names.now.definitions }
-    ensures { IfOk result (λ defs. defs ≡ all_defs names.now) }
+    ensures defs { IfOk result (λ defs. defs ≡ all_defs names.now) }
+    ensures few { length names.now.definitions ≤ 4000 }
 {
     let mut defs = List::new(alloc);
     for (i, def) in names.definitions().iter().enumerate() {
@@ -67,7 +74,8 @@ fn marked(alloc: Global, g: &Ground, tree: &[Node]) -> Result<Vec<bool>, AllocEr
 fn listed(alloc: Global, g: &Ground, marks: &[bool]) -> Result<List<Entry>, AllocError>
     requires named { GroundIsNamed g.now }
     requires marks { length marks.now ≡ length g.now.lines }
-    ensures { IfOk result (λ lines. lines ≡ marked_lines g.now marks.now (length marks.now)) }
+    ensures lines { IfOk result (λ lines. lines ≡ marked_lines g.now marks.now (length marks.now)) }
+    ensures numbers { IfOk result (λ lines. All HasNumber lines) }
 {
     let mut lines = List::new(alloc);
     for (i, is_marked) in marks.iter().enumerate() {

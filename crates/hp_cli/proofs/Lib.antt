@@ -3,5 +3,6 @@ pub mod Codes
 pub mod Tells
 pub mod WordLists
 pub mod Decisions
+pub mod OneLine
 pub mod Settled
 pub mod Determined

@@ -21,6 +21,7 @@ use Rattle.hp_cert.specs.declared.refutation.Refutation.{Refutation}
 use Rattle.hp_cert.specs.Entries.{AreSplitLines, all_defs}
 use Rattle.hp_cert.specs.Refutation.{refutation_text}
 use Rattle.hp_cert.specs.Refutes.{Refutes}
+use Rattle.hp_cert.specs.Spelled.{IsSpelled}
 use Rattle.hp_descent.specs.declared.answer.Strain.{Strain}
 use Rattle.hp_search.specs.Search.{IsHonestStrain}
 use Rattle.hp_ground.specs.Lines.{IsGroundOf, first_wide}
@@ -138,7 +139,8 @@ pub record Strained (bytes text : List ℕ) : Type 0 where
   pub written : text ≡ overflow_text strain
 
 -- No structure satisfies the problem, and the text is a refutation: each definition and line in it is that of the problem
--- with its number, each split is of a listed line, and the tree is whole with valid leaves.
+-- with its number, each split is of a listed line, and the tree is whole with valid leaves. All definitions are listed, and
+-- the lines that the tree splits and no others, in rising order, and the numbers are those that a refutation may have.
 pub record Unsatisfiable (bytes text : List ℕ) : Type 0 where
   pub problem : Problem
   pub scope : InScope bytes problem
@@ -146,6 +148,9 @@ pub record Unsatisfiable (bytes text : List ℕ) : Type 0 where
   pub ground : IsGroundOf problem lines
   pub refutation : Refutation
   pub refuted : Refutes lines refutation
+  pub defs : refutation.defs ≡ all_defs lines.names
+  pub listed : AreSplitLines lines refutation.tree refutation.lines
+  pub spelled : IsSpelled refutation
   pub none : (s : Structure) → Satisfies s problem → ⊥
   pub written : text ≡ line (codes "unsatisfiable") ++ refutation_text refutation
 
@@ -160,4 +165,5 @@ pub record OutOfNodes (bytes text : List ℕ) (most : ℕ) : Type 0 where
   pub honest : IsSpent (sorts lines.names) lines.lines listing.tree most
   pub defs : listing.defs ≡ all_defs lines.names
   pub listed : AreSplitLines lines listing.tree listing.lines
+  pub spelled : IsSpelled listing
   pub written : text ≡ line (codes "spent " ++ decimal most) ++ refutation_text listing

@@ -1,7 +1,9 @@
 -- A combination of the literals' rows is a combination of the literals: at the names the left sides add to nothing, at t
 -- the bounds add to at most 0, and a strict literal is taken where they add to 0.
-use Rattle.std.proofs.Common.{◌≡◌, ℕ, zero, suc, ◌+◌, ◌-◌, ◌<◌, ◌≤◌, ◌⊎◌, inl, inr, ℤ, pos, negsuc, neg_ℤ, ◌+ℤ◌, ◌-ℤ◌, ◌*ℤ◌, ◌≤ℤ◌, ◌<ℤ◌, refl, sym, ◌∙◌, ap, subst, arith, List, [], ◌∷◌, ◌++◌, length, get_or, map, drop, Some, true, false, cond, nat_eq, append_assoc, length-append, unsigned_abs}
+use Rattle.std.proofs.Common.{◌≡◌, ℕ, zero, suc, ◌+◌, ◌-◌, ◌^◌, ◌<◌, ◌≤◌, ◌⊎◌, inl, inr, ℤ, pos, negsuc, neg_ℤ, ◌+ℤ◌, ◌-ℤ◌, ◌*ℤ◌, ◌≤ℤ◌, ◌<ℤ◌, refl, sym, ◌∙◌, ap, subst, arith, List, [], ◌∷◌, ◌++◌, length, get_or, map, drop, Some, true, false, cond, nat_eq, append_assoc, length-append, unsigned_abs}
 use Rattle.std.specs.Prelude.{slice_get}
+use Rattle.std.specs.List.{All}
+use Rattle.std.proofs.lemmas.List.Elements.{All-head, All-tail}
 use Rattle.std.proofs.lemmas.Int.{ints}
 use Rattle.std.proofs.lemmas.Bool.{eqb-true, eq-eqb, ne_eqb}
 use Rattle.hp_math.proofs.Whole.{+ℤ-*ℤ}
@@ -20,7 +22,7 @@ use Rattle.hp_rows.specs.Answers.{IsRefuted}
 use Rattle.hp_rows.specs.Arithmetic.{is_nothing}
 use Rattle.hp_descent.specs.Columns.{columns, mentioned, part_names}
 use Rattle.hp_descent.specs.LiteralRows.{forward_row, backward_row, rows_by, rows_over, rows_of, width_of}
-use Rattle.hp_descent.specs.Shares.{signed_by, row_count, signed, shares_from, shares_of}
+use Rattle.hp_descent.specs.Shares.{signed_by, row_count, signed, IsNarrow, shares_from, shares_of}
 use Rattle.hp_descent.proofs.Rising.{among_names}
 use Rattle.hp_descent.proofs.Truth.{AllAmong, among_split, all_in}
 
@@ -142,10 +144,10 @@ leave_out path n m ms l ls t c = record {
     none : (a s : ℤ) → s ≡ (m *ℤ a) +ℤ s
     none a s = (let z = eqb-true (unsigned_abs m) 0 t in let y : m ≡ pos 0 = omega (arith, ints) in omega (arith, ints, ap (λ n. n *ℤ a) y))
 
-take_in : (path : List Lit) (n : ℕ) (m : ℤ) (ms : List ℤ) (l : NumLit) (ls : List NumLit) → is_nothing m ≡ false → (pos 0 ≤ℤ m) ⊎ (l.rel ≡ Eq) → IsLit path n (Num l)
+take_in : (path : List Lit) (n : ℕ) (m : ℤ) (ms : List ℤ) (l : NumLit) (ls : List NumLit) → is_nothing m ≡ false → unsigned_abs m < 2 ^ 127 → (pos 0 ≤ℤ m) ⊎ (l.rel ≡ Eq) → IsLit path n (Num l)
     → Collected path (suc n) ms ls (shares_from (suc n) ms) → Collected path n (m ∷ ms) (l ∷ ls) (record { lit = n; times = m } ∷ shares_from (suc n) ms)
-take_in path n m ms l ls f s at c = record {
-  taken = record { lit = l; times = m; sign = sign s } ∷ c.taken;
+take_in path n m ms l ls f w s at c = record {
+  taken = record { lit = l; times = m; narrow = w; sign = sign s } ∷ c.taken;
   are_taken = ((at, refl, apart), c.are_taken);
   rising = rises_on (record { lit = n; times = m }) (shares_from (suc n) ms) c.starts c.rising;
   starts = (let e : n ≤ n = omega arith in e);
@@ -166,15 +168,17 @@ take_in path n m ms l ls f s at c = record {
         above (negsuc k) h a = absurd (omega (arith, ints))
     sign (inr e) = inr e
 
-pub collected : (path : List Lit) (n : ℕ) (ms : List ℤ) (ls : List NumLit) → SignsFit ms ls → AreAt path n ls → Collected path n ms ls (shares_from n ms)
-collected path n [] ls s a = record { taken = []; are_taken = tt; rising = tt; starts = tt; column = λ x. refl; bounds = refl; strict = λ h. h }
-collected path n (m ∷ ms) [] s a = absurd s
-collected path n (m ∷ ms) (l ∷ ls) s a =
+pub collected : (path : List Lit) (n : ℕ) (ms : List ℤ) (ls : List NumLit) → SignsFit ms ls → AreAt path n ls → All IsNarrow (shares_from n ms) → Collected path n ms ls (shares_from n ms)
+collected path n [] ls s a w = record { taken = []; are_taken = tt; rising = tt; starts = tt; column = λ x. refl; bounds = refl; strict = λ h. h }
+collected path n (m ∷ ms) [] s a w = absurd s
+collected path n (m ∷ ms) (l ∷ ls) s a w =
     let rest = collected path (suc n) ms ls s.1 a.1 in
-    (elim (is_nothing m) as (λ b. is_nothing m ≡ b → Collected path n (m ∷ ms) (l ∷ ls) (cond b (shares_from (suc n) ms) (record { lit = n; times = m } ∷ shares_from (suc n) ms))) [
-      | true ↦ λ t. leave_out path n m ms l ls t rest
-      | false ↦ λ f. take_in path n m ms l ls f s.0 a.0 rest
-    ]) refl
+    let more = shares_from (suc n) ms in
+    let share : Share = record { lit = n; times = m } in
+    (elim (is_nothing m) as (λ b. is_nothing m ≡ b → All IsNarrow (cond b more (share ∷ more)) → Collected path n (m ∷ ms) (l ∷ ls) (cond b more (share ∷ more))) [
+      | true ↦ λ t k. leave_out path n m ms l ls t (rest k)
+      | false ↦ λ f k. take_in path n m ms l ls f (All-head IsNarrow share more k) s.0 a.0 (rest (All-tail IsNarrow share more k))
+    ]) refl w
 
 -- ---- the premises, of all literals
 signs_fit : (ls : List NumLit) (ms : List ℤ) → AreNotNegative ms → SignsFit (signed ls ms) ls
@@ -273,13 +277,13 @@ no_column ns x (m ∷ ms) (l ∷ ls) d a =
 after_first : (m c s : ℤ) → c ≡ pos 0 → (m *ℤ c) +ℤ s ≡ pos 0 → s ≡ pos 0
 after_first m c s e h = omega (arith, ints, ap (λ z. m *ℤ z) e)
 
-pub valid_leaf : (lits : List NumLit) (times : List ℤ) → IsRefuted (rows_of lits) (width_of lits) times → IsValidNum (map Num lits) (shares_of lits times)
-valid_leaf lits [] r = absurd (let e = r.contradiction.count in omega arith)
-valid_leaf lits (m ∷ ms) r =
+pub valid_leaf : (lits : List NumLit) (times : List ℤ) → IsRefuted (rows_of lits) (width_of lits) times → All IsNarrow (shares_of lits times) → IsValidNum (map Num lits) (shares_of lits times)
+valid_leaf lits [] r w = absurd (let e = r.contradiction.count in omega arith)
+valid_leaf lits (m ∷ ms) r w =
     let ns = columns lits in
     let count : length ms ≡ length (rows_over ns lits) = (let e = r.contradiction.count in omega arith) in
     let us = signed lits ms in
-    let c = collected (map Num lits) 1 us lits (signs_fit lits ms (λ i. r.none_negative (suc i))) (are_at [] lits) in
+    let c = collected (map Num lits) 1 us lits (signs_fit lits ms (λ i. r.none_negative (suc i))) (are_at [] lits) w in
     let scale : (m *ℤ negsuc 0) +ℤ neg_ℤ (sum_bound c.taken) ≡ pos 0 =
     (λ i. (m *ℤ sym (get_last (λ n. pos 0) ns (negsuc 0)) i) +ℤ (ap neg_ℤ c.bounds ∙ sym (neg_sum (λ l. l.bound) us lits) ∙ sym (rows_sum ns _ _ (at_scale ns) lits ms count)) i)
     ∙ r.contradiction.columns (length ns) (omega arith) in

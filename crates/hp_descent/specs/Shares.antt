@@ -1,5 +1,5 @@
 -- From multipliers of rows to multipliers of literals.
-use Rattle.std.specs.Prelude.{ℕ, suc, ℤ, ◌-ℤ◌, List, [], ◌∷◌, drop, if◌then◌else◌}
+use Rattle.std.specs.Prelude.{ℕ, suc, ◌<◌, ◌^◌, ℤ, ◌-ℤ◌, unsigned_abs, List, [], ◌∷◌, drop, if◌then◌else◌}
 use Rattle.hp_base.specs.declared.literal.Rel.{Rel}
 use Rattle.hp_base.specs.declared.literal.Rel.TheVariants.{Eq}
 use Rattle.hp_base.specs.declared.literal.NumLit.{NumLit}
@@ -21,6 +21,10 @@ row_count _ = 1
 abbrev pub signed : List NumLit → List ℤ → List ℤ
 signed [] times = []
 signed (l ∷ ls) times = signed_by l.rel times ∷ signed ls (drop (row_count l.rel) times)
+
+-- a multiplier of a magnitude of at most 2^127 - 1
+abbrev pub IsNarrow : Share → Type 0
+IsNarrow s = unsigned_abs s.times < 2 ^ 127
 
 -- a share of literal n, where its multiplier isn't 0
 abbrev pub with_share : ℕ → ℤ → List Share → List Share

@@ -1,8 +1,9 @@
 //! From multipliers of rows to multipliers of literals.
 
-ghost use Rattle.std.specs.Prelude.{◌≡◌, ◌<◌, ◌^◌, ◌++◌, ◌+◌, IfOk, OnOk, [], length, pos, drop, ◌≤ℤ◌};
+ghost use Rattle.std.specs.Prelude.{◌≡◌, ◌<◌, ◌^◌, ◌++◌, ◌+◌, IfOk, OnOk, [], length, pos, drop, ◌≤ℤ◌, unsigned_abs};
+ghost use Rattle.std.specs.List.{All};
 ghost use Rattle.hp_rows.specs.Rows.{AreNotNegative, times_at};
-ghost use Rattle.hp_descent.specs.Shares.{row_count, shares_of, signed_by, with_share};
+ghost use Rattle.hp_descent.specs.Shares.{IsNarrow, row_count, shares_of, signed_by, with_share};
 
 use hp_base::{NumLit, Rel, Share};
 use hp_num::{List, Whole};
@@ -13,7 +14,8 @@ use std::alloc::{AllocError, Global};
 pub fn shares_of(alloc: Global, lits: &[NumLit], times: &[Whole]) -> Result<List<Share>, AllocError>
     requires few { length lits.now < 2 ^ 28 }
     requires none_negative { AreNotNegative times.now }
-    ensures { IfOk result (λ shares. shares ≡ shares_of lits.now times.now) }
+    ensures shares { IfOk result (λ shares. shares ≡ shares_of lits.now times.now) }
+    ensures narrow { IfOk result (λ shares. All IsNarrow shares) }
 {
     let mut shares = List::new(alloc);
     let mut row = 1;
@@ -27,7 +29,9 @@ pub fn shares_of(alloc: Global, lits: &[NumLit], times: &[Whole]) -> Result<List
 
 /// Appends the share of a literal, unless its multiplier is 0.
 fn push_share(shares: &mut List<Share>, lit: u32, times: i128) -> Result<(), AllocError>
-    ensures { OnOk result (shares.new ≡ shares.old ++ with_share lit times []) }
+    requires { unsigned_abs times < 2 ^ 127 }
+    ensures shares { OnOk result (shares.new ≡ shares.old ++ with_share lit times []) }
+    ensures narrow { All IsNarrow shares.old → OnOk result (All IsNarrow shares.new) }
 {
     if times != 0 {
         shares.push(Share { lit, times })?;
@@ -49,7 +53,8 @@ fn row_count(rel: Rel) -> usize
 fn signed_by(rel: Rel, times: &[Whole], row: usize) -> i128
     requires small { row < 2 ^ 30 }
     requires none_negative { AreNotNegative times.now }
-    ensures { result ≡ signed_by rel (drop row times.now) }
+    ensures value { result ≡ signed_by rel (drop row times.now) }
+    ensures narrow { unsigned_abs result < 2 ^ 127 }
 {
     match rel {
         Rel::Eq => times_at(times, row) - times_at(times, row + 1),
@@ -62,6 +67,7 @@ fn times_at(times: &[Whole], row: usize) -> i128
     requires { AreNotNegative times.now }
     ensures value { result ≡ times_at times.now row }
     ensures positive { pos 0 ≤ℤ result }
+    ensures narrow { unsigned_abs result < 2 ^ 127 }
 {
     if row < times.len() {
         times[row].value()

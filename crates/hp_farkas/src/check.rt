@@ -73,11 +73,11 @@ fn add_up(path: &[Lit], shares: &[Share]) -> Result<bool, Wide>
 /// magnitude is above 2^127 - 1.
 ///
 /// The shares' literals count from 1 along the path. The form is tested before anything is added: each number is one
-/// of a literal over fractions, the numbers rise, and a multiplier is positive, or negative at an equality. What is of
-/// wrong form is answered with `false`. Then the multiplied coefficients are added name by name, the least name first,
-/// and at last the multiplied bounds; each time share by share, the product before the sum. A literal without the name
-/// adds nothing there. The answer is `true` where each name's sum is 0, and the sum of the bounds is below 0, or is 0
-/// with a strict literal among those taken. Takes no memory.
+/// of a literal over fractions, the numbers rise, and a multiplier has a magnitude of at most 2^127 - 1, and is positive,
+/// or negative at an equality. What is of wrong form is answered with `false`. Then the multiplied coefficients are added
+/// name by name, the least name first, and at last the multiplied bounds; each time share by share, the product before the
+/// sum. A literal without the name adds nothing there. The answer is `true` where each name's sum is 0, and the sum of the
+/// bounds is below 0, or is 0 with a strict literal among those taken. Takes no memory.
 pub fn check_num(path: &[Lit], shares: &[Share]) -> Result<bool, Wide>
     ensures checked { IsChecked path.now shares.now result }
     ensures valid { result ≡ Ok true → IsValidNum path.now shares.now }

@@ -24,14 +24,17 @@ pub fn num_at(path: &[Lit], number: u32) -> Option<&NumLit>
     }
 }
 
-/// Whether a literal over fractions may be taken this often: not 0 times, and less often only if it is an equality.
+/// Whether a literal over fractions may be taken this often: not 0 times, less often only if it is an equality, and never
+/// -2^127 times.
 fn may_take(path: &[Lit], share: Share) -> bool
     ensures yes { result ≡ true → (taken : Taken) × IsTaken path.now share taken }
     ensures no { result ≡ false → (taken : Taken) → IsTaken path.now share taken → ⊥ }
 {
     match num_at(path, share.lit) {
         None => false,
-        Some(lit) => 0 < share.times || share.times < 0 && lit.rel == Rel::Eq,
+        Some(lit) => {
+            0 < share.times || i128::MIN < share.times && share.times < 0 && lit.rel == Rel::Eq
+        }
     }
 }
 

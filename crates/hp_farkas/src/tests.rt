@@ -21,7 +21,7 @@ fn row(alloc: Global, rel: Rel, parts: &[Part], bound: i128) -> Result<Lit, Allo
     }))
 }
 
-/// Nine literals over the names 0 and 1, the fourth one over whole numbers.
+/// Ten literals over the names 0 and 1, the fourth one over whole numbers and the last one without a name.
 fn path(alloc: Global) -> Result<Vec<Lit>, AllocError> {
     let mut path = Vec::new(alloc);
     path.push(row(alloc, Rel::Le, &[part(0, 2)], 1)?)?;
@@ -38,6 +38,7 @@ fn path(alloc: Global) -> Result<Vec<Lit>, AllocError> {
     path.push(row(alloc, Rel::Eq, &[part(0, 1)], 2)?)?;
     path.push(row(alloc, Rel::Le, &[part(0, 1)], 0)?)?;
     path.push(row(alloc, Rel::Le, &[part(0, 1), part(1, 2)], 0)?)?;
+    path.push(row(alloc, Rel::Eq, &[], 1)?)?;
     Ok(path)
 }
 
@@ -51,7 +52,7 @@ fn wide(left: i128, op: Op, right: i128) -> Result<bool, Wide> {
 
 #[test]
 fn combinations(rt: HostRuntime) -> Result<(), AllocError> {
-    let cases: [(&[Share], Result<bool, Wide>); 9] = [
+    let cases: [(&[Share], Result<bool, Wide>); 10] = [
         (&[share(1, 1), share(2, 1)], Ok(true)),
         (&[share(1, 1), share(3, 2)], Ok(true)),
         (&[share(1, 1), share(3, 1)], Ok(false)),
@@ -67,6 +68,7 @@ fn combinations(rt: HostRuntime) -> Result<(), AllocError> {
             wide(LARGEST, Op::Plus, 1),
         ),
         (&[share(9, LARGEST)], wide(LARGEST, Op::Times, 2)),
+        (&[share(10, -LARGEST)], Ok(true)),
     ];
     let path = path(rt.alloc())?;
     for (shares, want) in cases {
@@ -77,15 +79,16 @@ fn combinations(rt: HostRuntime) -> Result<(), AllocError> {
 
 #[test]
 fn wrong_forms(rt: HostRuntime) -> Result<(), AllocError> {
-    let cases: [&[Share]; 8] = [
+    let cases: [&[Share]; 9] = [
         &[],
         &[share(0, 1), share(1, 1), share(2, 1)],
-        &[share(1, 1), share(2, 1), share(10, 1)],
+        &[share(1, 1), share(2, 1), share(11, 1)],
         &[share(1, 1), share(2, 1), share(4, 1)],
         &[share(1, 1), share(2, 1), share(5, 0)],
         &[share(2, 1), share(1, 1)],
         &[share(1, 1), share(1, 1), share(2, 2)],
         &[share(5, -1), share(8, 1)],
+        &[share(10, i128::MIN)],
     ];
     let path = path(rt.alloc())?;
     for shares in cases {

@@ -1,5 +1,5 @@
 -- The ground lines of a problem are over its constants, as the search and the texts ask.
-use Rattle.std.proofs.Common.{◌≡◌, ℕ, zero, suc, ◌<◌, ◌≤◌, ◌+◌, ◌^◌, List, [], ◌∷◌, Option, Some, None, length, map, refl, sym, ap, subst, ◌∙◌, arith}
+use Rattle.std.proofs.Common.{◌≡◌, ℕ, zero, suc, ◌<◌, ◌+◌, ◌^◌, List, [], ◌∷◌, Option, Some, None, length, refl, sym, ap, subst, ◌∙◌, arith}
 use Rattle.std.specs.Prelude.{slice_get, slice_index, Ok, Err, unsigned_abs}
 use Rattle.std.specs.List.{All}
 use Rattle.std.specs.List.Sorted.{IsStrictlyIncreasing}
@@ -17,16 +17,21 @@ use Rattle.hp_base.specs.declared.line.Def.{Def}
 use Rattle.hp_base.specs.declared.line.Line.{Line}
 use Rattle.hp_base.specs.declared.names.Ground.{Ground}
 use Rattle.hp_base.specs.Names.{NameList, sorts}
-use Rattle.hp_descent.specs.Columns.{IsFit, part_names}
-use Rattle.hp_path.specs.Built.{IsBuilt, IsIdxSide as IsBuiltSide, IsNumOver}
+use Rattle.hp_descent.specs.Columns.{part_names}
+use Rattle.hp_path.specs.Built.{IsBuilt, IsIdxSide as IsBuiltSide}
 use Rattle.hp_search.specs.Lines.{AreBuilt}
 use Rattle.hp_cert.specs.Named.{DefIsNamed, GroundIsNamed, IsName, IsNameIfAny, LineIsNamed, LitIsNamed}
+<<<<<<< HEAD
 use Rattle.hp_linear.specs.Steps.{Refusable, behind}
 use Rattle.hp_linear.specs.Normal.{AreNormalParts, IsNormalNum}
+=======
+use Rattle.hp_linear.specs.Steps.{Refusable, ◌>>=◌, behind}
+use Rattle.hp_linear.specs.Normal.{AreNormalParts}
+>>>>>>> 132092f939fec6175c2ba9169f48285cc36dfe58
 use Rattle.hp_linear.proofs.Refusals.{ok_same}
 use Rattle.hp_ground.specs.declared.consts.Consts.{Consts}
 use Rattle.hp_ground.specs.Ground.{consts_of}
-use Rattle.hp_ground.specs.Lines.{HasRows, IsGroundOf, IsIdxSide, IsNumPart, IsNumRow, IsRow, clause_literals, from_clause, lines_from}
+use Rattle.hp_ground.specs.Lines.{HasRows, IsGroundOf, IsIdxSide, IsNumPart, IsRow, clause_literals, from_clause, lines_from}
 
 -- ---- what the search asks of literals
 built_side : (ss : List Sort) (name : Option Name) → IsIdxSide ss name → IsBuiltSide ss name

@@ -1,7 +1,12 @@
 -- A problem with ground lines has no number that is too wide for them.
+<<<<<<< HEAD
 use Rattle.std.proofs.Common.{◌≡◌, ℕ, ◌+◌, ◌≤◌, List, [], ◌∷◌, length, Option, Some, None, refl}
 use Rattle.std.specs.Prelude.{Ok, Err, Bool, true, false, if◌then◌else◌}
 use Rattle.hp_num.specs.Wide.{◌>>=◌}
+=======
+use Rattle.std.proofs.Common.{◌≡◌, ℕ, ◌+◌, ◌≤◌, List, [], ◌∷◌, length, Some, None, refl}
+use Rattle.std.specs.Prelude.{Ok, Err, if◌then◌else◌}
+>>>>>>> 132092f939fec6175c2ba9169f48285cc36dfe58
 use Rattle.hp_ast.specs.declared.problem.Clause.{Clause}
 use Rattle.hp_ast.specs.declared.problem.Problem.{Problem}
 use Rattle.hp_base.specs.declared.literal.Lit.{Lit}
@@ -10,7 +15,7 @@ use Rattle.hp_base.specs.declared.names.Ground.{Ground}
 use Rattle.hp_linear.specs.Steps.{Refusable, behind}
 use Rattle.hp_ground.specs.declared.consts.Consts.{Consts}
 use Rattle.hp_ground.specs.Ground.{consts_of}
-use Rattle.hp_ground.specs.Lines.{IsGroundOf, clause_literals, first_wide, from_clause, is_wide, lines_from, wide_from}
+use Rattle.hp_ground.specs.Lines.{IsGroundOf, clause_literals, from_clause, is_wide, lines_from, wide_from}
 use Rattle.hp_solve.specs.Solved.{IsInScope}
 
 none_wide : (consts : Consts) (n : ℕ) (cs : List Clause) (ls : List Line) → lines_from consts n cs ≡ Ok ls → wide_from consts n cs ≡ None

@@ -1,6 +1,8 @@
--- The structure of constants with their values.
-use Rattle.std.proofs.Common.{◌≡◌, ℕ, zero, suc, ◌<◌, ◌+◌, List, [], ◌∷◌, ◌++◌, length, get_or, take, map, refl, ap, ◌∙◌, arith}
+-- The structure of constants with their values, and the constants' names.
+use Rattle.std.proofs.Common.{◌≡◌, ℕ, zero, suc, ◌<◌, ◌+◌, List, [], ◌∷◌, ◌++◌, length, get_or, take, map, refl, sym, ap, subst, ◌∙◌, arith}
+use Rattle.std.specs.List.{All}
 use Rattle.std.proofs.lemmas.List.{length-map, append-nil}
+use Rattle.std.proofs.lemmas.List.Elements.{All-nil, All-cons, All-head, All-tail}
 use Rattle.hp_math.specs.Rational.{ℚ}
 use Rattle.hp_ast.specs.declared.problem.Problem.{Problem}
 use Rattle.hp_ast.specs.declared.problem.Sort.{Sort}
@@ -12,9 +14,11 @@ use Rattle.hp_base.specs.Sorts.{AreOfSorts}
 use Rattle.hp_base.specs.Truth.{Values}
 use Rattle.hp_model.specs.declared.structure.ConstValue.{ConstValue}
 use Rattle.hp_model.specs.WellFormed.{Declared, constants}
+use Rattle.hp_cert.specs.Spelled.{IsOnOneLine, AreOnOneLine, FunctionIsOnOneLine}
 use Rattle.hp_ground.specs.Ground.{declared, declared_name}
 use Rattle.hp_ground.specs.Laws.{const_values}
 use Rattle.hp_ground.specs.Lines.{IsGroundOf, as_constant}
+use Rattle.hp_solve.specs.Solved.{AreNamesOnOneLine}
 
 pub one_more : (cs : List Constant) (v : Values) (i : ℕ) (d : Constant) (e : ℚ) → i < length cs → i < length v
     → const_values (map constant_name (take (i + 1) cs)) v ≡ const_values (map constant_name (take i cs)) v ++ record { name = (get_or cs i d).name; value = get_or v i e } ∷ []
@@ -45,3 +49,20 @@ names_of_constants (d ∷ ds) = ap (λ (ms : List (List ℕ)). d.name ∷ ms) (n
 -- the names of the constants are those that are declared
 pub ground_names : (p : Problem) (g : Ground) → IsGroundOf p g → map constant_name g.names.constants ≡ declared p
 ground_names p g is = ap (map constant_name) is.constants ∙ names_of_constants (constants p.decls)
+
+-- where no declared name has a line feed, no name of the ground problem has
+HasOneLine : Constant → Type 0
+HasOneLine constant = IsOnOneLine constant.name
+
+constants_on_one_line : (cs : List Constant) → All IsOnOneLine (map constant_name cs) → All HasOneLine cs
+unfolding HasOneLine
+constants_on_one_line [] h = All-nil HasOneLine
+constants_on_one_line (c ∷ cs) h =
+    All-cons HasOneLine c cs (All-head IsOnOneLine c.name (map constant_name cs) h) (constants_on_one_line cs (All-tail IsOnOneLine c.name (map constant_name cs) h))
+
+pub names_on_one_line : (p : Problem) (g : Ground) → IsGroundOf p g → AreNamesOnOneLine p → AreOnOneLine g.names
+unfolding HasOneLine
+names_on_one_line p g is h = record {
+  constants = constants_on_one_line g.names.constants (subst (All IsOnOneLine) (sym (ground_names p g is)) h);
+  functions = subst (λ (ds : List Def). All (λ (d : Def). FunctionIsOnOneLine g.names d.body) ds) (sym is.definitions) (All-nil (λ (d : Def). FunctionIsOnOneLine g.names d.body));
+}

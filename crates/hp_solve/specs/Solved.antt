@@ -1,5 +1,6 @@
 -- What a verdict says of a problem.
 use Rattle.std.specs.Prelude.{◌≡◌, ℕ, ◌<◌, ◌≤◌, [], length, None}
+use Rattle.std.specs.List.{All}
 use Rattle.hp_ast.specs.declared.problem.Problem.{Problem}
 use Rattle.hp_base.specs.declared.names.Ground.{Ground}
 use Rattle.hp_base.specs.Names.{sorts}
@@ -7,11 +8,12 @@ use Rattle.hp_leaf.specs.Tree.{IsSpent}
 use Rattle.hp_cert.specs.declared.refutation.Refutation.{Refutation}
 use Rattle.hp_cert.specs.Entries.{AreSplitLines, all_defs}
 use Rattle.hp_cert.specs.Refutes.{Refutes}
+use Rattle.hp_cert.specs.Spelled.{IsOnOneLine, IsSpelled}
 use Rattle.hp_model.specs.declared.structure.Structure.{Structure}
 use Rattle.hp_model.specs.Satisfies.{Satisfies}
 use Rattle.hp_descent.specs.declared.answer.Strain.{Strain}
 use Rattle.hp_search.specs.Search.{IsHonestStrain}
-use Rattle.hp_ground.specs.Ground.{IsGroundProblem}
+use Rattle.hp_ground.specs.Ground.{IsGroundProblem, declared}
 use Rattle.hp_ground.specs.Lines.{IsGroundOf, first_wide}
 use Rattle.hp_ground.specs.Answers.{IsFirstWide}
 use Rattle.hp_solve.specs.declared.solving.Solved.{Solved}
@@ -23,21 +25,29 @@ pub record IsInScope (p : Problem) : Type 0 where
   pub names : length p.decls ≤ 4000
   pub narrow : first_wide p ≡ None
 
+-- no declared name has a line feed, as in each problem that some text spells
+abbrev pub AreNamesOnOneLine : Problem → Type 0
+AreNamesOnOneLine p = All IsOnOneLine (declared p)
+
 -- a structure satisfies the problem
 pub record IsSat (p : Problem) (s : Structure) : Type 0 where
   pub scope : IsInScope p
   pub satisfied : Satisfies s p
   pub no_tables : s.tables ≡ []
 
--- the refutation refutes the ground lines, and no structure satisfies the problem
+-- the refutation refutes the ground lines, lists all definitions and the lines that it splits, and is spelled; no structure
+-- satisfies the problem
 pub record IsUnsat (p : Problem) (r : Refutation) : Type 0 where
   pub scope : IsInScope p
   pub lines : Ground
   pub ground : IsGroundOf p lines
   pub refuted : Refutes lines r
+  pub defs : r.defs ≡ all_defs lines.names
+  pub listed : AreSplitLines lines r.tree r.lines
+  pub spelled : AreNamesOnOneLine p → IsSpelled r
   pub none : (s : Structure) → Satisfies s p → ⊥
 
--- an honest tree of so many splits and leaves, with an open place, and the lines that it splits
+-- an honest tree of so many splits and leaves, with an open place, and the lines that it splits, all of it spelled
 pub record IsSpentOn (p : Problem) (most : ℕ) (r : Refutation) : Type 0 where
   pub scope : IsInScope p
   pub lines : Ground
@@ -45,6 +55,7 @@ pub record IsSpentOn (p : Problem) (most : ℕ) (r : Refutation) : Type 0 where
   pub honest : IsSpent (sorts lines.names) lines.lines r.tree most
   pub defs : r.defs ≡ all_defs lines.names
   pub listed : AreSplitLines lines r.tree r.lines
+  pub spelled : AreNamesOnOneLine p → IsSpelled r
 
 -- a number passes over the literals of an honest path through the ground lines
 pub record IsStrainedOn (p : Problem) (s : Strain) : Type 0 where

@@ -1,5 +1,6 @@
 use Rattle.std.proofs.Common.{◌<◌, arith}
 use Rattle.hp_cli.proofs.Decisions.{few_items, in_scope, is_light, no_const_problem, too_many_names, too_wide}
+use Rattle.hp_cli.proofs.OneLine.{names_on_one_line}
 use Rattle.hp_cli.proofs.deciding.settle.Goals as goal
 
 pub solve-requires-clause-declarations : goal.solve-requires-clause-declarations
@@ -50,6 +51,9 @@ returns-in_ok-unsat_text-in-Unsat c = record {
   ground = c.in-Unsat.ensures.ground;
   refutation = c.in-Unsat.refutation;
   refuted = c.in-Unsat.ensures.refuted;
+  defs = c.in-Unsat.ensures.defs;
+  listed = c.in-Unsat.ensures.listed;
+  spelled = c.in-Unsat.ensures.spelled (names_on_one_line c.args.bytes.now c.args.problem.now c.requires.counted.sorted.read);
   none = c.in-Unsat.ensures.none;
   written = c.in_ok-unsat_text-in-Unsat.ensures;
 }
@@ -64,5 +68,6 @@ returns-in_ok-spent_text-in-Spent c = record {
   honest = c.in-Spent.ensures.honest;
   defs = c.in-Spent.ensures.defs;
   listed = c.in-Spent.ensures.listed;
+  spelled = c.in-Spent.ensures.spelled (names_on_one_line c.args.bytes.now c.args.problem.now c.requires.counted.sorted.read);
   written = c.in_ok-spent_text-in-Spent.ensures;
 }

@@ -1,7 +1,11 @@
-use Rattle.std.proofs.Common.{◌+◌, sym, ◌∙◌, subst, length}
+use Rattle.std.proofs.Common.{◌+◌, sym, ap, ◌∙◌, subst, length, map}
+use Rattle.std.specs.List.{All}
+use Rattle.hp_base.specs.declared.literal.Lit.TheVariants.{Num}
+use Rattle.hp_base.specs.Leaf.{IsValidNum}
 use Rattle.hp_rows.specs.Rows.{AreWide}
 use Rattle.hp_descent.specs.Columns.{columns}
 use Rattle.hp_descent.specs.LiteralRows.{rows_of}
+use Rattle.hp_descent.specs.Shares.{IsNarrow, shares_of}
 use Rattle.hp_descent.proofs.Numbering.{are_wide, same_rows, same_width, same_answer}
 use Rattle.hp_descent.proofs.Farkas.{valid_leaf}
 use Rattle.hp_descent.proofs.decision.decide_over.Goals as goal
@@ -24,4 +28,5 @@ returns-in-Contradiction c =
     let e = c.as_slice.ensures ∙ same_rows c.args.lits.now c.args.names.now c.in_ok-rows.rows c.requires.columns c.in_ok-rows.ensures in
     let w = same_width c.args.lits.now c.args.names.now c.requires.columns in
     let h = rw c.in-Contradiction.is at (same_answer c.args.lits.now (length c.args.names.now + 1) c.as_slice.result.now c.descend.result e w c.descend.ensures) in
-    rw (c.in_ok-shares-in-Contradiction.ensures, c.as_slice-in-Contradiction.ensures) (valid_leaf c.args.lits.now c.in-Contradiction.times h)
+    let shares = c.in_ok-shares-in-Contradiction.ensures.shares ∙ ap (shares_of c.args.lits.now) c.as_slice-in-Contradiction.ensures in
+    subst (IsValidNum (map Num c.args.lits.now)) (sym shares) (valid_leaf c.args.lits.now c.in-Contradiction.times h (subst (All IsNarrow) shares c.in_ok-shares-in-Contradiction.ensures.narrow))

@@ -1,5 +1,4 @@
 use Rattle.std.proofs.Common.{arith}
-use Rattle.hp_base.specs.Names.{sorts}
 use Rattle.hp_solve.proofs.Rows.{ground_count, ground_built}
 use Rattle.hp_solve.proofs.Scope.{scope_of}
 use Rattle.hp_solve.proofs.solving.solve.Goals as goal

@@ -1,10 +1,12 @@
 use Rattle.std.proofs.Common.{◌∙◌, ℕ, false, List, length, map, ap, sym, subst}
 use Rattle.hp_base.specs.Names.{constant_name, sorts}
+use Rattle.hp_leaf.specs.Tree.{IsSpent}
+use Rattle.hp_cert.specs.Entries.{AreSplitLines}
 use Rattle.hp_search.specs.Search.{IsFound}
 use Rattle.hp_ground.specs.Laws.{structure_of}
 use Rattle.hp_solve.proofs.Rows.{ground_named}
-use Rattle.hp_solve.proofs.Splits.{closed_splits, spent_splits}
-use Rattle.hp_solve.proofs.Structures.{count_of_values, ground_names}
+use Rattle.hp_solve.proofs.Splits.{closed_reading, closed_splits, spent_reading, spent_splits}
+use Rattle.hp_solve.proofs.Structures.{count_of_values, ground_names, names_on_one_line}
 use Rattle.hp_solve.proofs.Verdicts.{sat_from, none_from}
 use Rattle.hp_solve.proofs.solving.verdict.Goals as goal
 
@@ -38,6 +40,9 @@ returns-in-Ok-entries c =
       lines = g;
       ground = c.requires.ground;
       refuted = c.in-Ok-entries.ensures.refutes closed;
+      defs = c.in-Ok-entries.ensures.defs;
+      listed = subst (λ tree. AreSplitLines g tree c.in-Ok-entries.refutation.lines) (sym c.in-Ok-entries.ensures.tree) c.in-Ok-entries.ensures.lines;
+      spelled = λ named. c.in-Ok-entries.ensures.spelled (names_on_one_line c.args.p.now g c.requires.ground named) (closed_reading g c.in-Closed.tree closed);
       none = none_from c.args.p.now g c.in-Closed.tree c.requires.ground closed;
     }
 
@@ -48,3 +53,18 @@ pub entries-requires-in-Spent-clause-splits : goal.entries-requires-in-Spent-cla
 entries-requires-in-Spent-clause-splits c =
     let g = c.args.g.now in
     spent_splits (sorts g.names) g c.in-Spent.tree c.args.most (subst (λ f. IsFound (sorts g.names) g.lines c.args.most false f) c.in-Spent.is c.requires.found)
+
+pub returns-in-Ok-entries-2 : goal.returns-in-Ok-entries-2
+returns-in-Ok-entries-2 c =
+    let g = c.args.g.now in
+    let spent = subst (λ f. IsFound (sorts g.names) g.lines c.args.most false f) c.in-Spent.is c.requires.found in
+    let e = c.in-Ok-entries-2.ensures in
+    record {
+      scope = c.requires.scope;
+      lines = g;
+      ground = c.requires.ground;
+      honest = subst (λ tree. IsSpent (sorts g.names) g.lines tree c.args.most) (sym e.tree) spent;
+      defs = e.defs;
+      listed = subst (λ tree. AreSplitLines g tree c.in-Ok-entries-2.listing.lines) (sym e.tree) e.lines;
+      spelled = λ named. e.spelled (names_on_one_line c.args.p.now g c.requires.ground named) (spent_reading (sorts g.names) g c.in-Spent.tree c.args.most spent);
+    }
