@@ -1,5 +1,5 @@
 -- The answers of an input exclude one another: each has a cause that the others lack.
-use Rattle.std.proofs.Common.{◌≡◌, inl, inr, ℕ, List, [], None, Some, ◌+◌, ◌<◌, ◌≤◌, length, refl, sym, ap, subst, ◌∙◌, arith}
+use Rattle.std.proofs.Common.{◌≡◌, inl, ℕ, List, None, Some, ◌+◌, ◌<◌, ◌≤◌, length, refl, sym, ap, subst, ◌∙◌, arith}
 use Rattle.std.specs.declared.option.Option.{Option}
 use Rattle.hp_ast.specs.Printing.{problem_text}
 use Rattle.hp_ast.specs.declared.problem.Problem.{Problem}
@@ -8,27 +8,24 @@ use Rattle.hp_read.proofs.BytesLaws.{no_fault, one_problem}
 use Rattle.hp_sorts.specs.Faults.{sort_fault}
 use Rattle.hp_sorts.specs.Limits.{passed}
 use Rattle.hp_ground.specs.Lines.{first_wide}
-use Rattle.hp_scope.specs.Laws.{IsScopedProblem}
+use Rattle.hp_cli.specs.NotBuilt.{IsBuilt, IsNotBuilt}
+use Rattle.hp_cli.specs.Size.{most_bytes}
 use Rattle.hp_cli.specs.declared.answer.Status.{Status}
-use Rattle.hp_cli.specs.declared.answer.Status.TheVariants.{Done, Usage, ReadFault, WriteFault, Spelling, Sort, Limit, Overflow, Sat, Spent, Memory, NotBuilt, Unsat}
+use Rattle.hp_cli.specs.declared.answer.Status.TheVariants.{Spelling, Sort, Limit, Overflow, Sat, Spent, NotBuilt, Unsat}
 use Rattle.hp_cli.specs.declared.words.Task.{Task}
 use Rattle.hp_cli.specs.declared.words.Task.TheVariants.{Solve, Print}
-use Rattle.hp_cli.specs.Answer.{Answers, Does, IsDone, Prints, Solves}
+use Rattle.hp_cli.specs.Answer.{Answers, Does}
+use Rattle.hp_cli.specs.Answer as answers
 use Rattle.hp_cli.specs.Laws.{IsDetermined, OneAnswer}
-use Rattle.hp_cli.specs.Refusals.{limit_text, sort_text, spelling_text, usage_text}
-use Rattle.hp_cli.specs.Verdicts.{InScope, IsCounted, IsNotBuilt, IsRead, IsSorted, Missorted, Misspelled, Printed, TooLong, TooMany, TooManyNames, TooWide, coefficient}
-use Rattle.hp_cli.specs.Words.{Asks, IsUsage}
+use Rattle.hp_cli.specs.Refusals.{limit_text, sort_text, spelling_text}
+use Rattle.hp_cli.specs.Verdicts.{InScope, IsCounted, IsRead, IsSorted, Missorted, Misspelled, OtherForm, Printed, TooLong, TooMany, TooManyNames, TooWide, coefficient}
+use Rattle.hp_cli.specs.Words.{Asks}
 use Rattle.hp_cli.proofs.Settled.{printing_solves}
 
 some_same : {A : Type 0} (x y : A) → ◌≡◌ {A = Option A} (Some x) (Some y) → x ≡ y
 some_same x y e = cc
 
--- ---- where printing and solving end
-data PrintEnds (bytes text : List ℕ) : Status → Type 0 where
-  misspelled : Misspelled bytes text → PrintEnds bytes text Spelling
-  long : TooLong bytes text → PrintEnds bytes text Limit
-  printed : Printed bytes text → PrintEnds bytes text Done
-
+-- ---- where solving ends: with a refusal, or within scope
 data SolveEnds (bytes text : List ℕ) : Status → Type 0 where
   misspelled : Misspelled bytes text → SolveEnds bytes text Spelling
   long : TooLong bytes text → SolveEnds bytes text Limit
@@ -36,41 +33,21 @@ data SolveEnds (bytes text : List ℕ) : Status → Type 0 where
   many : TooMany bytes text → SolveEnds bytes text Limit
   names : TooManyNames bytes text → SolveEnds bytes text Limit
   wide : TooWide bytes text → SolveEnds bytes text Limit
-  form : IsNotBuilt bytes text → SolveEnds bytes text NotBuilt
+  form : OtherForm bytes text → SolveEnds bytes text NotBuilt
   verdict : (p : Problem) (s : Status) → InScope bytes p → (IsDetermined s → ⊥) → SolveEnds bytes text s
 
-print_ends : (bytes text : List ℕ) (s : Status) → Prints bytes text s → PrintEnds bytes text s
-print_ends bytes text Spelling h = misspelled h
-print_ends bytes text Limit h = long h
-print_ends bytes text Done h = printed h
-print_ends bytes text Usage h = absurd h
-print_ends bytes text ReadFault h = absurd h
-print_ends bytes text WriteFault h = absurd h
-print_ends bytes text Sort h = absurd h
-print_ends bytes text Overflow h = absurd h
-print_ends bytes text Sat h = absurd h
-print_ends bytes text Spent h = absurd h
-print_ends bytes text Memory h = absurd h
-print_ends bytes text NotBuilt h = absurd h
-print_ends bytes text Unsat h = absurd h
-
-solve_ends : (most : ℕ) (bytes text : List ℕ) (s : Status) → Solves most bytes text s → SolveEnds bytes text s
-solve_ends most bytes text Spelling h = misspelled h
-solve_ends most bytes text Sort h = missorted h
-solve_ends most bytes text Limit (inl h) = long h
-solve_ends most bytes text Limit (inr (inl h)) = many h
-solve_ends most bytes text Limit (inr (inr (inl h))) = names h
-solve_ends most bytes text Limit (inr (inr (inr h))) = wide h
-solve_ends most bytes text NotBuilt h = form h
-solve_ends most bytes text Overflow h = verdict h.problem Overflow h.scope (λ d. d tt)
-solve_ends most bytes text Sat h = verdict h.problem Sat h.scope (λ d. d tt)
-solve_ends most bytes text Unsat h = verdict h.problem Unsat h.scope (λ d. d tt)
-solve_ends most bytes text Spent h = verdict h.problem Spent h.scope (λ d. d tt)
-solve_ends most bytes text Done h = absurd h
-solve_ends most bytes text Usage h = absurd h
-solve_ends most bytes text ReadFault h = absurd h
-solve_ends most bytes text WriteFault h = absurd h
-solve_ends most bytes text Memory h = absurd h
+solve_ends : (most : ℕ) (bytes text : List ℕ) (s : Status) → Does bytes text (Solve most) s → SolveEnds bytes text s
+solve_ends most bytes text _ (answers.too_long h) = long h
+solve_ends most bytes text _ (answers.misspelled h) = misspelled h
+solve_ends most bytes text _ (answers.missorted h) = missorted h
+solve_ends most bytes text _ (answers.too_many h) = many h
+solve_ends most bytes text _ (answers.other_form h) = form h
+solve_ends most bytes text _ (answers.too_many_names h) = names h
+solve_ends most bytes text _ (answers.too_wide h) = wide h
+solve_ends most bytes text _ (answers.strained h) = verdict h.problem Overflow h.scope (λ d. d (inl answers.overflow))
+solve_ends most bytes text _ (answers.satisfiable h) = verdict h.problem Sat h.scope (λ d. d (inl answers.sat))
+solve_ends most bytes text _ (answers.unsatisfiable h) = verdict h.problem Unsat h.scope (λ d. d (inl answers.unsat))
+solve_ends most bytes text _ (answers.out_of_nodes h) = verdict h.problem Spent h.scope (λ d. d (inl answers.spent))
 
 -- ---- causes that exclude one another, and causes that are one
 module _ (bytes text other : List ℕ) where
@@ -83,10 +60,10 @@ module _ (bytes text other : List ℕ) where
   read_or_misspelled : (p : Problem) → IsRead bytes p → Misspelled bytes other → ⊥
   read_or_misspelled p r b = b.known (no_fault bytes p b.fault r.spelled b.cause)
 
-  long_or_short : TooLong bytes text → length bytes ≤ 1048576 → ⊥
+  long_or_short : TooLong bytes text → length bytes ≤ most_bytes → ⊥
   long_or_short a h = omega (arith, a.size, h)
 
-  short_or_long : length bytes ≤ 1048576 → TooLong bytes other → ⊥
+  short_or_long : length bytes ≤ most_bytes → TooLong bytes other → ⊥
   short_or_long h b = omega (arith, b.size, h)
 
   one_length : TooLong bytes text → TooLong bytes other → text ≡ other
@@ -147,20 +124,20 @@ module _ (bytes text other : List ℕ) where
       let clause = some_same a.clause b.clause (sym a.cause ∙ ap first_wide same ∙ b.cause) in
       a.written ∙ (λ i. limit_text (coefficient (length (same i).decls + clause i))) ∙ sym b.written
 
-  constants_or_other : (p q : Problem) → IsCounted bytes p → IsCounted bytes q → IsScopedProblem p → (IsScopedProblem q → ⊥) → ⊥
-  constants_or_other p q c d is not_constants = not_constants (subst IsScopedProblem (one_read p q c.sorted.read d.sorted.read) is)
+  built_or_other : (p q : Problem) → IsCounted bytes p → IsCounted bytes q → IsBuilt p → IsNotBuilt q → ⊥
+  built_or_other p q c d built other_built = other_built (subst IsBuilt (one_read p q c.sorted.read d.sorted.read) built)
 
   -- ---- one end
-  one_print_end : (s t : Status) → PrintEnds bytes text s → PrintEnds bytes other t → (s ≡ t) × (text ≡ other)
-  one_print_end _ _ (misspelled a) (misspelled b) = (refl, one_misspelling a b)
-  one_print_end _ _ (misspelled a) (long b) = absurd (short_or_long a.size b)
-  one_print_end _ _ (misspelled a) (printed b) = absurd (misspelled_or_read b.problem a b.read)
-  one_print_end _ _ (long a) (misspelled b) = absurd (long_or_short a b.size)
-  one_print_end _ _ (long a) (long b) = (refl, one_length a b)
-  one_print_end _ _ (long a) (printed b) = absurd (long_or_short a b.read.size)
-  one_print_end _ _ (printed a) (misspelled b) = absurd (read_or_misspelled a.problem a.read b)
-  one_print_end _ _ (printed a) (long b) = absurd (short_or_long a.read.size b)
-  one_print_end _ _ (printed a) (printed b) = (refl, one_print a b)
+  one_print_end : (s t : Status) → Does bytes text Print s → Does bytes other Print t → (s ≡ t) × (text ≡ other)
+  one_print_end _ _ (answers.misspelled a) (answers.misspelled b) = (refl, one_misspelling a b)
+  one_print_end _ _ (answers.misspelled a) (answers.too_long b) = absurd (short_or_long a.size b)
+  one_print_end _ _ (answers.misspelled a) (answers.printed b) = absurd (misspelled_or_read b.problem a b.read)
+  one_print_end _ _ (answers.too_long a) (answers.misspelled b) = absurd (long_or_short a b.size)
+  one_print_end _ _ (answers.too_long a) (answers.too_long b) = (refl, one_length a b)
+  one_print_end _ _ (answers.too_long a) (answers.printed b) = absurd (long_or_short a b.read.size)
+  one_print_end _ _ (answers.printed a) (answers.misspelled b) = absurd (read_or_misspelled a.problem a.read b)
+  one_print_end _ _ (answers.printed a) (answers.too_long b) = absurd (short_or_long a.read.size b)
+  one_print_end _ _ (answers.printed a) (answers.printed b) = (refl, one_print a b)
 
   one_solve_end : (s t : Status) → SolveEnds bytes text s → SolveEnds bytes other t → IsDetermined s → (s ≡ t) × (text ≡ other)
   one_solve_end _ _ (misspelled a) (misspelled b) d = (refl, one_misspelling a b)
@@ -201,7 +178,7 @@ module _ (bytes text other : List ℕ) where
   one_solve_end _ _ (names a) (many b) d = absurd (counted_or_many a.problem a.counted b)
   one_solve_end _ _ (names a) (names b) d = (refl, a.written ∙ sym b.written)
   one_solve_end _ _ (names a) (wide b) d = absurd (names_or_wide a b)
-  one_solve_end _ _ (names a) (form b) d = absurd (constants_or_other a.problem b.problem a.counted b.counted a.constants b.other)
+  one_solve_end _ _ (names a) (form b) d = absurd (built_or_other a.problem b.problem a.counted b.counted a.built b.other)
   one_solve_end _ _ (names a) (verdict q t b n) d = absurd (names_or_few q a b)
   one_solve_end _ _ (wide a) (misspelled b) d = absurd (read_or_misspelled a.problem a.counted.sorted.read b)
   one_solve_end _ _ (wide a) (long b) d = absurd (short_or_long a.counted.sorted.read.size b)
@@ -209,53 +186,31 @@ module _ (bytes text other : List ℕ) where
   one_solve_end _ _ (wide a) (many b) d = absurd (counted_or_many a.problem a.counted b)
   one_solve_end _ _ (wide a) (names b) d = absurd (few_or_names a b)
   one_solve_end _ _ (wide a) (wide b) d = (refl, one_width a b)
-  one_solve_end _ _ (wide a) (form b) d = absurd (constants_or_other a.problem b.problem a.counted b.counted a.constants b.other)
+  one_solve_end _ _ (wide a) (form b) d = absurd (built_or_other a.problem b.problem a.counted b.counted a.built b.other)
   one_solve_end _ _ (wide a) (verdict q t b n) d = absurd (wide_or_narrow q a b)
   one_solve_end _ _ (form a) (misspelled b) d = absurd (read_or_misspelled a.problem a.counted.sorted.read b)
   one_solve_end _ _ (form a) (long b) d = absurd (short_or_long a.counted.sorted.read.size b)
   one_solve_end _ _ (form a) (missorted b) d = absurd (sorted_or_missorted a.problem a.counted.sorted b)
   one_solve_end _ _ (form a) (many b) d = absurd (counted_or_many a.problem a.counted b)
-  one_solve_end _ _ (form a) (names b) d = absurd (constants_or_other b.problem a.problem b.counted a.counted b.constants a.other)
-  one_solve_end _ _ (form a) (wide b) d = absurd (constants_or_other b.problem a.problem b.counted a.counted b.constants a.other)
+  one_solve_end _ _ (form a) (names b) d = absurd (built_or_other b.problem a.problem b.counted a.counted b.built a.other)
+  one_solve_end _ _ (form a) (wide b) d = absurd (built_or_other b.problem a.problem b.counted a.counted b.built a.other)
   one_solve_end _ _ (form a) (form b) d = (refl, a.written ∙ sym b.written)
-  one_solve_end _ _ (form a) (verdict q t b n) d = absurd (constants_or_other q a.problem b.counted a.counted b.constants a.other)
+  one_solve_end _ _ (form a) (verdict q t b n) d = absurd (built_or_other q a.problem b.counted a.counted b.built a.other)
   one_solve_end s t (verdict p _ a n) b d = absurd (n d)
 
 -- ---- words
-one_done : (words : List (List ℕ)) (bytes text other : List ℕ) (s t : Status) → IsDone words bytes text s → IsDone words bytes other t → IsDetermined s → (s ≡ t) × (text ≡ other)
-one_done words bytes text other s t a b d = by a.task b.task a.asked b.asked a.does b.does
-  where
-    by : (p q : Task) → Asks words p → Asks words q → Does p bytes text s → Does q bytes other t → (s ≡ t) × (text ≡ other)
-    by Print Print e f g h = one_print_end bytes text other s t (print_ends bytes text s g) (print_ends bytes other t h)
-    by Print (Solve n) e f g h = absurd (printing_solves words n e f.0)
-    by (Solve m) Print e f g h = absurd (printing_solves words m f e.0)
-    by (Solve m) (Solve n) e f g h = one_solve_end bytes text other s t (solve_ends m bytes text s g) (solve_ends n bytes other t h) d
+module _ (words : List (List ℕ)) (bytes text other : List ℕ) where
+  one_done : (p q : Task) (s t : Status) → Asks words p → Asks words q → Does bytes text p s → Does bytes other q t → IsDetermined s → (s ≡ t) × (text ≡ other)
+  one_done Print Print s t e f a b d = one_print_end bytes text other s t a b
+  one_done Print (Solve n) s t e f a b d = absurd (printing_solves words n e f.0)
+  one_done (Solve m) Print s t e f a b d = absurd (printing_solves words m f e.0)
+  one_done (Solve m) (Solve n) s t e f a b d = one_solve_end bytes text other s t (solve_ends m bytes text s a) (solve_ends n bytes other t b) d
 
--- the words are no command, or what they ask for is done
-data AnswersBy (words : List (List ℕ)) (bytes text : List ℕ) : Status → Type 0 where
-  usage : IsUsage words → text ≡ usage_text → AnswersBy words bytes text Usage
-  done : (s : Status) → IsDone words bytes text s → AnswersBy words bytes text s
-
-answers_by : (words : List (List ℕ)) (bytes text : List ℕ) (s : Status) → Answers words bytes text s → AnswersBy words bytes text s
-answers_by words bytes text Usage h = usage h.0 h.1
-answers_by words bytes text Done h = done Done h
-answers_by words bytes text Spelling h = done Spelling h
-answers_by words bytes text Sort h = done Sort h
-answers_by words bytes text Limit h = done Limit h
-answers_by words bytes text Overflow h = done Overflow h
-answers_by words bytes text Sat h = done Sat h
-answers_by words bytes text Unsat h = done Unsat h
-answers_by words bytes text Spent h = done Spent h
-answers_by words bytes text NotBuilt h = done NotBuilt h
-answers_by words bytes text ReadFault h = absurd h
-answers_by words bytes text WriteFault h = absurd h
-answers_by words bytes text Memory h = absurd h
-
-one_of : (words : List (List ℕ)) (bytes text other : List ℕ) (s t : Status) → AnswersBy words bytes text s → AnswersBy words bytes other t → IsDetermined s → (s ≡ t) × (text ≡ other)
-one_of words bytes text other _ _ (usage a e) (usage b f) d = (refl, e ∙ sym f)
-one_of words bytes text other _ _ (usage a e) (done t b) d = absurd (a b.task b.asked)
-one_of words bytes text other _ _ (done s a) (usage b f) d = absurd (b a.task a.asked)
-one_of words bytes text other _ _ (done s a) (done t b) d = one_done words bytes text other s t a b d
+  one_of : (s t : Status) → Answers words bytes text s → Answers words bytes other t → IsDetermined s → (s ≡ t) × (text ≡ other)
+  one_of _ _ (answers.usage a e) (answers.usage b f) d = (refl, e ∙ sym f)
+  one_of _ t (answers.usage a e) (answers.done {task} asked b) d = absurd (a task asked)
+  one_of s _ (answers.done {task} asked a) (answers.usage b f) d = absurd (b task asked)
+  one_of s t (answers.done {task = p} e a) (answers.done {task = q} f b) d = one_done p q s t e f a b d
 
 pub one_answer : OneAnswer
-one_answer words bytes text other s t a b d = one_of words bytes text other s t (answers_by words bytes text s a) (answers_by words bytes other t b) d
+one_answer words bytes text other s t a b d = one_of words bytes text other s t a b d

@@ -6,13 +6,14 @@ use Rattle.hp_read.proofs.BytesLaws.{no_fault, one_problem}
 use Rattle.hp_sorts.specs.Faults.{sort_fault}
 use Rattle.hp_sorts.specs.Limits.{passed}
 use Rattle.hp_ground.specs.Lines.{first_wide}
-use Rattle.hp_scope.specs.Laws.{IsScopedProblem}
+use Rattle.hp_cli.specs.NotBuilt.{IsBuilt}
 use Rattle.hp_cli.specs.declared.answer.Status.{Status}
-use Rattle.hp_cli.specs.declared.answer.Status.TheVariants.{Done, Usage, ReadFault, WriteFault, Spelling, Sort, Limit, Overflow, Sat, Spent, Memory, NotBuilt, Unsat}
 use Rattle.hp_cli.specs.declared.words.Task.{Task}
 use Rattle.hp_cli.specs.declared.words.Task.TheVariants.{Solve, Print}
-use Rattle.hp_cli.specs.Answer.{Does, IsDone, IsSettled, IsSolving, Solves, Stands}
-use Rattle.hp_cli.specs.Verdicts.{InScope, IsNotBuilt, Missorted, Misspelled, TooLong, TooMany, TooManyNames, TooWide}
+use Rattle.hp_cli.specs.Answer.{Answers, Does, IsSettled, IsSolving, Stands}
+use Rattle.hp_cli.specs.Answer.{done, misspelled, missorted, other_form, out_of_nodes, satisfiable, strained, too_long, too_many, too_many_names, too_wide, unsatisfiable, usage}
+use Rattle.hp_cli.specs.Answer.{memory, overflow, read, sat, spent, unread, unsat, unwritten, wanted, wanting, whole, write}
+use Rattle.hp_cli.specs.Verdicts.{InScope, OtherForm, Missorted, Misspelled, TooLong, TooMany, TooManyNames, TooWide}
 use Rattle.hp_cli.specs.Words.{Asks, IsSolve}
 
 -- ---- words
@@ -60,47 +61,35 @@ module _ (bytes text : List ℕ) (p : Problem) (scope : InScope bytes p) where
       let none : None ≡ Some m.clause = sym scope.narrow ∙ ap first_wide same ∙ m.cause in
       cc
 
-  no_other_form : IsNotBuilt bytes text → ⊥
+  no_other_form : OtherForm bytes text → ⊥
   no_other_form m =
       let same = one_problem bytes p m.problem scope.counted.sorted.read.spelled m.counted.sorted.read.spelled in
-      m.other (subst IsScopedProblem same scope.constants)
+      m.other (subst IsBuilt same scope.built)
 
-  solves_settled : (most : ℕ) (s : Status) → Solves most bytes text s → IsSettled s
-  solves_settled most Spelling h = absurd (no_misspelling h)
-  solves_settled most Sort h = absurd (no_missorting h)
-  solves_settled most Limit (inl h) = absurd (no_length h)
-  solves_settled most Limit (inr (inl h)) = absurd (no_counts h)
-  solves_settled most Limit (inr (inr (inl h))) = absurd (no_names h)
-  solves_settled most Limit (inr (inr (inr h))) = absurd (no_width h)
-  solves_settled most NotBuilt h = absurd (no_other_form h)
-  solves_settled most Overflow h = tt
-  solves_settled most Sat h = tt
-  solves_settled most Unsat h = tt
-  solves_settled most Spent h = tt
-  solves_settled most Done h = absurd h
-  solves_settled most Usage h = absurd h
-  solves_settled most ReadFault h = absurd h
-  solves_settled most WriteFault h = absurd h
-  solves_settled most Memory h = absurd h
+  solves_settled : (most : ℕ) (s : Status) → Does bytes text (Solve most) s → IsSettled s
+  solves_settled most _ (too_long h) = absurd (no_length h)
+  solves_settled most _ (misspelled h) = absurd (no_misspelling h)
+  solves_settled most _ (missorted h) = absurd (no_missorting h)
+  solves_settled most _ (too_many h) = absurd (no_counts h)
+  solves_settled most _ (other_form h) = absurd (no_other_form h)
+  solves_settled most _ (too_many_names h) = absurd (no_names h)
+  solves_settled most _ (too_wide h) = absurd (no_width h)
+  solves_settled most _ (strained h) = inl overflow
+  solves_settled most _ (satisfiable h) = inl sat
+  solves_settled most _ (unsatisfiable h) = inl unsat
+  solves_settled most _ (out_of_nodes h) = inl spent
 
-  done_settled : (words : List (List ℕ)) (s : Status) → IsSolving words → IsDone words bytes text s → IsSettled s
-  done_settled words s solving done = by done.task done.asked done.does
-    where
-      by : (task : Task) → Asks words task → Does task bytes text s → IsSettled s
-      by (Solve most) asked does = solves_settled most s does
-      by Print asked does = absurd (printing_solves words solving.0 asked solving.1.0)
+  does_settled : (words : List (List ℕ)) (task : Task) (s : Status) → IsSolving words → Asks words task → Does bytes text task s → IsSettled s
+  does_settled words (Solve most) s solving asked does = solves_settled most s does
+  does_settled words Print s solving asked does = absurd (printing_solves words solving.0 asked solving.1.0)
+
+  answers_settled : (words : List (List ℕ)) (s : Status) → IsSolving words → Answers words bytes text s → IsSettled s
+  answers_settled words _ solving (usage none e) = absurd (none (Solve solving.0) solving.1)
+  answers_settled words s solving (done {task} asked does) = does_settled words task s solving asked does
 
   pub stands_settled : (words : List (List ℕ)) (s : Status) → IsSolving words → Stands words bytes text s → IsSettled s
-  stands_settled words Usage solving h = absurd (h.0 (Solve solving.0) solving.1)
-  stands_settled words Done solving h = done_settled words Done solving h
-  stands_settled words Spelling solving h = done_settled words Spelling solving h
-  stands_settled words Sort solving h = done_settled words Sort solving h
-  stands_settled words Limit solving h = done_settled words Limit solving h
-  stands_settled words NotBuilt solving h = done_settled words NotBuilt solving h
-  stands_settled words Overflow solving h = tt
-  stands_settled words Sat solving h = tt
-  stands_settled words Unsat solving h = tt
-  stands_settled words Spent solving h = tt
-  stands_settled words ReadFault solving h = tt
-  stands_settled words WriteFault solving h = tt
-  stands_settled words Memory solving h = tt
+  stands_settled words s solving (whole h) = answers_settled words s solving h
+  stands_settled words _ solving (unread e) = inr read
+  stands_settled words _ solving (unwritten h) = inr write
+  stands_settled words _ solving (wanting e) = inr memory
+  stands_settled words _ solving (wanted h) = inr memory

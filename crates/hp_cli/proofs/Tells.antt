@@ -1,62 +1,42 @@
 -- What source and sink tell, from part to whole.
-use Rattle.std.proofs.Common.{◌≡◌, ℕ, List, [], ◌++◌, None, Some, IfSome, refl, sym, ap, subst, ◌∙◌, append-nil, ◌∷◌, ◌<◌, ◌≤◌, length, get_or, arith}
-use Rattle.std.proofs.Common.{Bool, true, false, ◌&&◌, nat_eq}
-use Rattle.std.proofs.lemmas.Bool.{eqb-true, eq-eqb}
-use lib.Pointwise.{pointwise}
+use Rattle.std.proofs.Common.{ℕ, List, [], None, Some, IfSome, sym, subst}
 use Rattle.std.specs.declared.option.Option.{Option}
 use Rattle.std.specs.Io.KnownBytes.{Appends}
+use Rattle.std.proofs.KnownBytes.{Appends-nil}
 use Rattle.hp_cli.specs.declared.answer.Status.{Status}
-use Rattle.hp_cli.specs.declared.answer.Status.TheVariants.{Done, Usage, ReadFault, WriteFault, Spelling, Sort, Limit, Overflow, Sat, Spent, Memory, NotBuilt, Unsat}
-use Rattle.hp_cli.specs.Answer.{ToldWritten, Told, Answers, Begins, Stands, IsWhole}
+use Rattle.hp_cli.specs.declared.answer.Status.TheVariants.{WriteFault, Memory}
+use Rattle.hp_cli.specs.Answer.{Answers, Begins, Stands, Told, Wrote, unwritten, wanted, whole}
 use Rattle.hp_cli.specs.Transfer.{WritesFront}
+use Rattle.hp_cli.proofs.Transfers.{some_left}
 
-pub IfSome_map : {A : Type 0} (P Q : A → Type 0) (x : Option A) → ((a : A) → P a → Q a) → IfSome x P → IfSome x Q
-IfSome_map P Q None f p = tt
-IfSome_map P Q (Some a) f p = f a p
+pub wrote_nothing : (a : Option (List ℕ)) (P : List ℕ → Type 0) → P [] → Wrote a a P
+wrote_nothing a P p = ([], Appends-nil a, p)
 
-pub IfSome_all : {A : Type 0} (Q : A → Type 0) (x : Option A) → ((a : A) → Q a) → IfSome x Q
-IfSome_all Q None f = tt
-IfSome_all Q (Some a) f = f a
+-- ---- what stands in the output after a write
+module _ (words : List (List ℕ)) (bytes text : List ℕ) (s : Status) (a b : Option (List ℕ)) (answer : Answers words bytes text s) where
+  front_begins : (w : WritesFront a b text) → Begins words bytes w.front
+  front_begins w = record { rest = w.rest; status = s; answer = subst (λ (t : List ℕ). Answers words bytes t s) w.split answer }
 
-pub told_nothing : (a : Option (List ℕ)) (P : List ℕ → Type 0) → P [] → ToldWritten a a P
-told_nothing None P p = tt
-told_nothing (Some x) P p = ([], sym (append-nil x), p)
+  pub wrote_whole : Appends a b text → Wrote a b (λ out. Stands words bytes out s)
+  wrote_whole w = (text, w, whole answer)
 
-pub told_map : (a b : Option (List ℕ)) (P Q : List ℕ → Type 0) → ((out : List ℕ) → P out → Q out) → ToldWritten a b P → ToldWritten a b Q
-told_map None b P Q f p = tt
-told_map (Some x) None P Q f p = p
-told_map (Some x) (Some y) P Q f p = (p.0, p.1, f p.0 p.2)
+  pub wrote_part : WritesFront a b text → Wrote a b (λ out. Stands words bytes out WriteFault)
+  wrote_part w = (w.front, w.appended, unwritten (front_begins w))
 
-pub told_all : (a b : Option (List ℕ)) (text : List ℕ) (P : List ℕ → Type 0) → Appends a b text → P text → ToldWritten a b P
-told_all None b text P w p = tt
-told_all (Some x) None text P w p = w
-told_all (Some x) (Some y) text P w p = (text, w, p)
+  pub wrote_as_wanted : WritesFront a b text → Wrote a b (λ out. Stands words bytes out Memory)
+  wrote_as_wanted w = (w.front, w.appended, wanted (front_begins w))
 
-pub whole_stands : (words : List (List ℕ)) (bytes out : List ℕ) (s : Status) → IsWhole s → Answers words bytes out s → Stands words bytes out s
-whole_stands words bytes out Usage w a = a
-whole_stands words bytes out Done w a = a
-whole_stands words bytes out Spelling w a = a
-whole_stands words bytes out Sort w a = a
-whole_stands words bytes out Limit w a = a
-whole_stands words bytes out Overflow w a = a
-whole_stands words bytes out Sat w a = a
-whole_stands words bytes out Unsat w a = a
-whole_stands words bytes out Spent w a = a
-whole_stands words bytes out NotBuilt w a = a
-whole_stands words bytes out ReadFault w a = absurd w
-whole_stands words bytes out WriteFault w a = absurd w
-whole_stands words bytes out Memory w a = absurd w
+-- ---- from the writes to the run
+pub told_nothing : (left a : Option (List ℕ)) (P : List ℕ → List ℕ → Type 0) → ((bytes : List ℕ) → P bytes []) → Told left a a P
+told_nothing left a P p = let l = some_left left in (l.0, l.1, wrote_nothing a (P l.0) (p l.0))
 
-pub front_begins : (words : List (List ℕ)) (bytes text : List ℕ) (s : Status) (a b : Option (List ℕ)) → Answers words bytes text s → (w : WritesFront a b text)
-    → Begins words bytes w.front
-front_begins words bytes text s a b answer w = record { rest = w.rest; status = s; answer = subst (λ (t : List ℕ). Answers words bytes t s) w.split answer }
+pub told_any : (left a b : Option (List ℕ)) (P : List ℕ → List ℕ → Type 0) → ((bytes : List ℕ) → Wrote a b (P bytes)) → Told left a b P
+told_any left a b P p = let l = some_left left in (l.0, l.1, p l.0)
 
-pub told_source : (left before after : Option (List ℕ)) (Known : List ℕ → Type 0) (P : List ℕ → List ℕ → Type 0) → IfSome left Known
-    → ((bytes : List ℕ) → Known bytes → ToldWritten before after (λ out. P bytes out)) → Told left before after P
-told_source None before after Known P k f = tt
-told_source (Some bytes) before after Known P k f = f bytes k
+pub told_map : (left a b : Option (List ℕ)) (P Q : List ℕ → List ℕ → Type 0) → ((bytes out : List ℕ) → P bytes out → Q bytes out) → Told left a b P → Told left a b Q
+told_map left a b P Q f t = (t.0, t.1, (t.2.0, t.2.1, f t.0 t.2.0 t.2.2))
 
-pub told_both : (left before after : Option (List ℕ)) (P Q : List ℕ → List ℕ → Type 0) → ((bytes out : List ℕ) → P bytes out → Q bytes out)
-    → Told left before after P → Told left before after Q
-told_both None before after P Q f h = tt
-told_both (Some bytes) before after P Q f h = told_map before after (P bytes) (Q bytes) (f bytes) h
+-- what is known of every input that may have been left is known of the one that the source tells
+pub told_left : (left a b : Option (List ℕ)) (P : List ℕ → List ℕ → Type 0) (Q : List ℕ → Type 0) → ((bytes out : List ℕ) → P bytes out → Q bytes) → Told left a b P → IfSome left Q
+told_left None a b P Q f t = tt
+told_left (Some x) a b P Q f t = subst Q (sym t.1) (f t.0 t.2.0 t.2.2)

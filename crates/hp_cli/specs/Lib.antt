@@ -1,6 +1,8 @@
+pub mod Size
 pub mod Words
 pub mod Transfer
 pub mod Refusals
+pub mod NotBuilt
 pub mod Verdicts
 pub mod Answer
 pub mod Laws

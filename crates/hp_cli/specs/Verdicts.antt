@@ -1,5 +1,5 @@
 -- What the program says of the bytes of an input.
-use Rattle.std.specs.Prelude.{◌≡◌, ◌≢◌, ◌⊎◌, ℕ, ◌<◌, ◌≤◌, List, [], ◌++◌, ◌+◌, codes, length, Some, None}
+use Rattle.std.specs.Prelude.{◌≡◌, ◌≢◌, ℕ, ◌<◌, ◌≤◌, List, ◌++◌, ◌+◌, codes, length, Some, None}
 use Rattle.std.specs.Fmt.{decimal}
 use Rattle.hp_ast.specs.declared.limit.Limit.{Limit}
 use Rattle.hp_ast.specs.declared.limit.Which.TheVariants.{Bytes, Names, Coefficient}
@@ -26,7 +26,8 @@ use Rattle.hp_descent.specs.declared.answer.Strain.{Strain}
 use Rattle.hp_search.specs.Search.{IsHonestStrain}
 use Rattle.hp_ground.specs.Lines.{IsGroundOf, first_wide}
 use Rattle.hp_cert.specs.Overflow.{overflow_text}
-use Rattle.hp_scope.specs.Laws.{IsScopedProblem}
+use Rattle.hp_cli.specs.NotBuilt.{IsBuilt, IsNotBuilt}
+use Rattle.hp_cli.specs.Size.{most_bytes}
 use Rattle.hp_cli.specs.Refusals.{line, limit_text, not_built_text, sort_text, spelling_text}
 
 -- the limit on numbers, with the item that passes it
@@ -36,7 +37,7 @@ coefficient item = record { which = Coefficient; most = 0; item = item }
 -- ---- how far an input comes
 -- at most 1,048,576 bytes, and they spell the problem
 pub record IsRead (bytes : List ℕ) (p : Problem) : Type 0 where
-  pub size : length bytes ≤ 1048576
+  pub size : length bytes ≤ most_bytes
   pub spelled : Spells bytes p
 
 -- no item breaks a rule on names and sorts
@@ -49,17 +50,17 @@ pub record IsCounted (bytes : List ℕ) (p : Problem) : Type 0 where
   pub sorted : IsSorted bytes p
   pub counted : passed p ≡ None
 
--- It declares constants of sort idx and num alone, at most 4,000 of them, no clause has variables, each atom is of one of
--- these sorts, and no number of a normal form passes 2^127 - 1: the texts that get a verdict, or a strain.
+-- Its form is decided, it has at most 4,000 constants, and no number of a normal form passes 2^127 - 1: the texts that get a
+-- verdict, or a strain.
 pub record InScope (bytes : List ℕ) (p : Problem) : Type 0 where
   pub counted : IsCounted bytes p
-  pub constants : IsScopedProblem p
+  pub built : IsBuilt p
   pub names : length p.decls ≤ 4000
   pub narrow : first_wide p ≡ None
 
 -- ---- refusals
 pub record Misspelled (bytes text : List ℕ) : Type 0 where
-  pub size : length bytes ≤ 1048576
+  pub size : length bytes ≤ most_bytes
   pub fault : ReadErr
   pub cause : IsFault bytes fault
   pub known : fault ≢ memory
@@ -74,8 +75,8 @@ pub record Missorted (bytes text : List ℕ) : Type 0 where
 
 -- more bytes than a problem may have
 pub record TooLong (bytes text : List ℕ) : Type 0 where
-  pub size : 1048576 < length bytes
-  pub written : text ≡ limit_text (limit Bytes 1048576)
+  pub size : most_bytes < length bytes
+  pub written : text ≡ limit_text (limit Bytes most_bytes)
 
 -- more clauses, variables or arguments
 pub record TooMany (bytes text : List ℕ) : Type 0 where
@@ -89,7 +90,7 @@ pub record TooMany (bytes text : List ℕ) : Type 0 where
 pub record TooManyNames (bytes text : List ℕ) : Type 0 where
   pub problem : Problem
   pub counted : IsCounted bytes problem
-  pub constants : IsScopedProblem problem
+  pub built : IsBuilt problem
   pub size : 4000 < length problem.decls
   pub written : text ≡ limit_text (limit Names 4000)
 
@@ -97,18 +98,17 @@ pub record TooManyNames (bytes text : List ℕ) : Type 0 where
 pub record TooWide (bytes text : List ℕ) : Type 0 where
   pub problem : Problem
   pub counted : IsCounted bytes problem
-  pub constants : IsScopedProblem problem
+  pub built : IsBuilt problem
   pub few : length problem.decls ≤ 4000
   pub clause : ℕ
   pub cause : first_wide problem ≡ Some clause
   pub written : text ≡ limit_text (coefficient (length problem.decls + clause))
 
--- a problem of a form that isn't decided so far: it declares something else than constants of sort idx and num, or a clause
--- has variables, or an atom is of sort ptr
-pub record IsNotBuilt (bytes text : List ℕ) : Type 0 where
+-- a form that isn't decided so far
+pub record OtherForm (bytes text : List ℕ) : Type 0 where
   pub problem : Problem
   pub counted : IsCounted bytes problem
-  pub other : IsScopedProblem problem → ⊥
+  pub other : IsNotBuilt problem
   pub written : text ≡ not_built_text
 
 -- ---- answers

@@ -6,12 +6,14 @@ ghost use Rattle.hp_cert.specs.Refutation.{refutation_text};
 ghost use Rattle.hp_model.specs.Written.{structure_text};
 ghost use Rattle.hp_grammar.specs.Spells.{IsFault};
 ghost use Rattle.hp_sorts.specs.Limits.{limit as limit_of};
-ghost use Rattle.hp_cli.specs.Answer.{Does, Prints, Solves};
+ghost use Rattle.hp_cli.specs.Answer.{Does};
 ghost use Rattle.hp_cli.specs.Refusals.{limit_text, line};
+ghost use Rattle.hp_cli.specs.Size.{most_bytes};
 ghost use Rattle.hp_cli.specs.Verdicts.{IsCounted, IsRead, coefficient};
 ghost use Rattle.hp_cli.specs.Words.{IsTask};
 
 use crate::answer::Status;
+use crate::limits::{MOST_BYTES, MOST_NAMES};
 use crate::refusals;
 use crate::words::Task;
 use hp_ast::{Limit, Problem, Which};
@@ -32,12 +34,6 @@ pub struct Answer {
     pub text: Text,
     pub status: Status,
 }
-
-/// The most bytes of a problem.
-const MOST_BYTES: u64 = 1_048_576;
-
-/// The most names of a ground problem.
-const MOST_NAMES: u64 = 4_000;
 
 /// The text of a structure that satisfies the problem.
 fn sat_text(alloc: Global, structure: &Structure) -> Result<Text, AllocError>
@@ -71,11 +67,11 @@ fn spent_text(alloc: Global, most: u64, listing: &Refutation) -> Result<Text, Al
 
 /// The answer where the input has more bytes than a problem may have.
 pub fn too_long(alloc: Global, task: Task) -> Result<Answer, AllocError>
-    ensures { IfOk result (λ answer. (answer.status ≡ Status.Limit) × ((bytes : List ℕ) → 1048576 < length bytes → Does task bytes answer.text answer.status)) }
+    ensures { IfOk result (λ answer. (answer.status ≡ Status.Limit) × ((bytes : List ℕ) → most_bytes < length bytes → Does bytes answer.text task answer.status)) }
 {
     let limit = Limit {
         which: Which::Bytes,
-        most: MOST_BYTES,
+        most: MOST_BYTES as u64,
         item: 0,
     };
     Ok(Answer {
@@ -86,9 +82,9 @@ pub fn too_long(alloc: Global, task: Task) -> Result<Answer, AllocError>
 
 /// The answer where the input spells no problem.
 fn misspelled(alloc: Global, bytes: &[u8], fault: ReadErr, task: Task) -> Result<Answer, AllocError>
-    requires size { length bytes.now ≤ 1048576 }
+    requires size { length bytes.now ≤ most_bytes }
     requires fault { IsFault bytes.now fault }
-    ensures { IfOk result (λ answer. Does task bytes.now answer.text answer.status) }
+    ensures { IfOk result (λ answer. Does bytes.now answer.text task answer.status) }
 {
     match fault {
         ReadErr::Memory => Err(AllocError),
@@ -101,9 +97,9 @@ fn misspelled(alloc: Global, bytes: &[u8], fault: ReadErr, task: Task) -> Result
 
 /// The answer for an input. Want of memory is the one error.
 pub fn decide(alloc: Global, bytes: &[u8], task: Task) -> Result<Answer, AllocError>
-    requires size { length bytes.now ≤ 1048576 }
+    requires size { length bytes.now ≤ most_bytes }
     requires most { IsTask task }
-    ensures { IfOk result (λ answer. Does task bytes.now answer.text answer.status) }
+    ensures { IfOk result (λ answer. Does bytes.now answer.text task answer.status) }
 {
     match task {
         Task::Print => print_again(alloc, bytes),
@@ -116,8 +112,8 @@ pub fn decide(alloc: Global, bytes: &[u8], task: Task) -> Result<Answer, AllocEr
 
 /// The answer by the printed text of the problem that the input spells.
 fn print_again(alloc: Global, bytes: &[u8]) -> Result<Answer, AllocError>
-    requires size { length bytes.now ≤ 1048576 }
-    ensures { IfOk result (λ answer. Prints bytes.now answer.text answer.status) }
+    requires size { length bytes.now ≤ most_bytes }
+    ensures { IfOk result (λ answer. Does bytes.now answer.text Task.Print answer.status) }
 {
     match reprint(alloc, bytes) {
         Err(fault) => misspelled(alloc, bytes, fault, Task::Print),
@@ -138,7 +134,7 @@ fn check_and_solve(
 ) -> Result<Answer, AllocError>
     requires read { IsRead bytes.now problem.now }
     requires most { 1 ≤ most }
-    ensures { IfOk result (λ answer. Solves most bytes.now answer.text answer.status) }
+    ensures { IfOk result (λ answer. Does bytes.now answer.text (Task.Solve most) answer.status) }
 {
     match check(alloc, problem) {
         Err(SortErr::Memory) => return Err(AllocError),
@@ -163,7 +159,7 @@ fn check_and_solve(
 fn settle(alloc: Global, bytes: &[u8], problem: &Problem, most: u64) -> Result<Answer, AllocError>
     requires counted { IsCounted bytes.now problem.now }
     requires most { 1 ≤ most }
-    ensures { IfOk result (λ answer. Solves most bytes.now answer.text answer.status) }
+    ensures { IfOk result (λ answer. Does bytes.now answer.text (Task.Solve most) answer.status) }
 {
     match solve(alloc, problem, most) {
         Solved::Memory => Err(AllocError),

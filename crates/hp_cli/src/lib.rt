@@ -4,6 +4,7 @@
 mod answer;
 mod deciding;
 mod laws;
+mod limits;
 mod refusals;
 mod running;
 #[cfg(test)]
@@ -13,5 +14,6 @@ mod words;
 
 pub use answer::Status;
 pub use laws::one_answer;
+pub use limits::MOST_BYTES;
 pub use running::run;
 pub use words::Task;

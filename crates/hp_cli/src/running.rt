@@ -1,11 +1,14 @@
 //! The run of a command: read all, decide, write all. Only here are sources and sinks in play.
 
-ghost use Rattle.std.specs.Prelude.{◌≡◌, ◌<◌, ◌≤◌, ◌⊎◌, length, List, ℕ, map, string_bytes};
+ghost use Rattle.std.specs.Prelude.{◌≡◌, ◌<◌, ◌≤◌, ◌⊎◌, IfSome, length, List, ℕ, map, string_bytes};
 ghost use Rattle.std.specs.Io.KnownBytes.{Keeps};
 ghost use Rattle.hp_io.specs.Causes.{Rose};
 ghost use Rattle.hp_cli.specs.declared.answer.Status.{Status};
 ghost use Rattle.hp_ast.specs.declared.problem.Problem.{Problem};
-ghost use Rattle.hp_cli.specs.Answer.{Answers, code, Fits, HasEnded, IsDecided, IsSettledCode, IsSolving, IsWhole, Stands, Told, ToldWritten};
+ghost use Rattle.hp_cli.specs.declared.words.Task.{Task};
+ghost use Rattle.hp_cli.specs.Answer.{Answers, code, Fits, IsSettledCode, IsSolving, IsWhole, Stands, Told, Wrote};
+ghost use Rattle.hp_cli.specs.Size.{most_bytes};
+ghost use Rattle.hp_cli.specs.Transfer.{HasEnded, TakesFew};
 ghost use Rattle.hp_cli.specs.Verdicts.{InScope};
 ghost use Rattle.hp_cli.specs.Words.{Asks, IsTask, IsUsage};
 
@@ -26,7 +29,7 @@ fn finish<K: Sink>(sink: &mut K, text: &[u8], status: Status) -> Status
     ensures cause { result ≡ Status.WriteFault → Rose (K.faults sink.old) (K.faults sink.new) }
     ensures later { K.faults sink.old ≤ K.faults sink.new }
     ensures content { (words : List (List ℕ)) (bytes : List ℕ) → Answers words bytes text.now status
-        → ToldWritten (K.written sink.old) (K.written sink.new) (λ out. Stands words bytes out result) }
+        → Wrote (K.written sink.old) (K.written sink.new) (λ out. Stands words bytes out result) }
 {
     match write_all(sink, text) {
         Ok(()) => status,
@@ -41,7 +44,7 @@ fn usage<K: Sink>(sink: &mut K) -> Status
     ensures cause { result ≡ Status.WriteFault → Rose (K.faults sink.old) (K.faults sink.new) }
     ensures later { K.faults sink.old ≤ K.faults sink.new }
     ensures content { (words : List (List ℕ)) (bytes : List ℕ) → IsUsage words
-        → ToldWritten (K.written sink.old) (K.written sink.new) (λ out. Stands words bytes out result) }
+        → Wrote (K.written sink.old) (K.written sink.new) (λ out. Stands words bytes out result) }
 {
     finish(sink, USAGE, Status::Usage)
 }
@@ -51,8 +54,8 @@ fn refuse_long<K: Sink>(alloc: Global, task: Task, sink: &mut K) -> Status
     ensures status { (result ≡ Status.Limit) ⊎ ((result ≡ Status.WriteFault) ⊎ (result ≡ Status.Memory)) }
     ensures cause { result ≡ Status.WriteFault → Rose (K.faults sink.old) (K.faults sink.new) }
     ensures later { K.faults sink.old ≤ K.faults sink.new }
-    ensures content { (words : List (List ℕ)) (bytes : List ℕ) → Asks words task → 1048576 < length bytes
-        → ToldWritten (K.written sink.old) (K.written sink.new) (λ out. Stands words bytes out result) }
+    ensures content { (words : List (List ℕ)) (bytes : List ℕ) → Asks words task → most_bytes < length bytes
+        → Wrote (K.written sink.old) (K.written sink.new) (λ out. Stands words bytes out result) }
 {
     match too_long(alloc, task) {
         Err(_) => Status::Memory,
@@ -62,14 +65,14 @@ fn refuse_long<K: Sink>(alloc: Global, task: Task, sink: &mut K) -> Status
 
 /// Writes the answer for an input.
 fn answer<K: Sink>(alloc: Global, bytes: &[u8], task: Task, sink: &mut K) -> Status
-    requires size { length bytes.now ≤ 1048576 }
+    requires size { length bytes.now ≤ most_bytes }
     requires task { IsTask task }
     ensures not_usage { result ≡ Status.Usage → ⊥ }
     ensures not_read { result ≡ Status.ReadFault → ⊥ }
     ensures cause { result ≡ Status.WriteFault → Rose (K.faults sink.old) (K.faults sink.new) }
     ensures later { K.faults sink.old ≤ K.faults sink.new }
     ensures content { (words : List (List ℕ)) (input : List ℕ) → Asks words task → input ≡ bytes.now
-        → ToldWritten (K.written sink.old) (K.written sink.new) (λ out. Stands words input out result) }
+        → Wrote (K.written sink.old) (K.written sink.new) (λ out. Stands words input out result) }
 {
     match decide(alloc, bytes, task) {
         Err(_) => Status::Memory,
@@ -87,7 +90,8 @@ fn perform<S: Source, K: Sink>(alloc: Global, task: Task, source: &mut S, sink: 
     ensures sink_count { K.faults sink.old ≤ K.faults sink.new }
     ensures content { (words : List (List ℕ)) → Asks words task
         → Told (S.left source.old) (K.written sink.old) (K.written sink.new) (λ bytes out. Stands words bytes out result) }
-    ensures end { IsDecided result → HasEnded (S.left source.old) (S.left source.new) result }
+    ensures few { TakesFew (S.left source.old) (S.left source.new) }
+    ensures end { (result ≡ Status.ReadFault → ⊥) → (result ≡ Status.Memory → ⊥) → HasEnded (S.left source.old) (S.left source.new) }
 {
     match read_all(alloc, source) {
         Input::Failed => Status::ReadFault,
@@ -113,7 +117,9 @@ fn outcome<S: Source, K: Sink>(
     ensures sink_count { K.faults sink.old ≤ K.faults sink.new }
     ensures content { Told (S.left source.old) (K.written sink.old) (K.written sink.new)
         (λ bytes out. Stands (map string_bytes words.now) bytes out result) }
-    ensures end { IsDecided result → HasEnded (S.left source.old) (S.left source.new) result }
+    ensures few { TakesFew (S.left source.old) (S.left source.new) }
+    ensures end { (task : Task) → Asks (map string_bytes words.now) task → (result ≡ Status.ReadFault → ⊥) → (result ≡ Status.Memory → ⊥)
+        → HasEnded (S.left source.old) (S.left source.new) }
 {
     match Task::from_words(words) {
         None => usage(sink),
@@ -157,14 +163,17 @@ pub fn run<S: Source, K: Sink>(alloc: Global, words: &[String], source: &mut S, 
     ensures write_fault { result ≡ 4 → Rose (K.faults sink.old) (K.faults sink.new) }
     ensures source_count { S.faults source.old ≤ S.faults source.new }
     ensures sink_count { K.faults sink.old ≤ K.faults sink.new }
-    // What was written, where source and sink tell.
+    // What was written, as far as the sink tells it, for an input that is the source's where this tells it.
     ensures content { Told (S.left source.old) (K.written sink.old) (K.written sink.new)
         (λ bytes out. Fits (map string_bytes words.now) bytes out result) }
     // A text in scope gets a verdict, unless a stream fails or memory is wanting.
-    ensures settled { IsSolving (map string_bytes words.now) → Told (S.left source.old) (K.written sink.old) (K.written sink.new)
-        (λ bytes _. (p : Problem) → InScope bytes p → IsSettledCode result) }
-    // Nothing is left to read, unless the input is too long.
-    ensures end { (s : Status) → IsDecided s → result ≡ code s → HasEnded (S.left source.old) (S.left source.new) s }
+    ensures settled { IsSolving (map string_bytes words.now) → IfSome (S.left source.old)
+        (λ bytes. (p : Problem) → InScope bytes p → IsSettledCode result) }
+    // Never more is read than one byte past the limit, and for a task no less than that, or all, unless a read fails or
+    // memory is wanting.
+    ensures few { TakesFew (S.left source.old) (S.left source.new) }
+    ensures end { (task : Task) → Asks (map string_bytes words.now) task → (result ≡ 3 → ⊥) → (result ≡ 12 → ⊥)
+        → HasEnded (S.left source.old) (S.left source.new) }
 {
     outcome(alloc, words, source, sink).code()
 }

@@ -1,4 +1,5 @@
-use Rattle.std.proofs.Common.{◌<◌, arith}
+use Rattle.std.proofs.Common.{arith}
+use Rattle.hp_cli.specs.Answer.{other_form, out_of_nodes, satisfiable, strained, unsatisfiable}
 use Rattle.hp_cli.proofs.Decisions.{few_items, in_scope, is_light, no_const_problem, too_many_names, too_wide}
 use Rattle.hp_cli.proofs.OneLine.{names_on_one_line}
 use Rattle.hp_cli.proofs.deciding.settle.Goals as goal
@@ -10,12 +11,12 @@ pub solve-requires-clause-light : goal.solve-requires-clause-light
 solve-requires-clause-light c = is_light c.args.bytes.now c.args.problem.now c.requires.counted.sorted.read
 
 pub returns-in_ok-not_built-in-Other : goal.returns-in_ok-not_built-in-Other
-returns-in_ok-not_built-in-Other c = record {
+returns-in_ok-not_built-in-Other c = other_form (record {
   problem = c.args.problem.now;
   counted = c.requires.counted;
   other = no_const_problem c.args.bytes.now c.args.problem.now c.requires.counted c.in-Other.ensures;
   written = c.in_ok-not_built-in-Other.ensures;
-}
+})
 
 pub returns-in-ManyNames : goal.returns-in-ManyNames
 returns-in-ManyNames c = too_many_names c.args.most c.args.bytes.now c.args.problem.now c.requires.counted c.in-ManyNames.ensures.0 c.in-ManyNames.ensures.1 c.many_names.result c.many_names.ensures
@@ -24,7 +25,7 @@ pub returns-in-Wide : goal.returns-in-Wide
 returns-in-Wide c = too_wide c.args.most c.args.bytes.now c.args.problem.now c.in-Wide.item c.requires.counted c.in-Wide.ensures c.wide_number.result c.wide_number.ensures
 
 pub returns-in_ok-overflow_text-in-Strained : goal.returns-in_ok-overflow_text-in-Strained
-returns-in_ok-overflow_text-in-Strained c = record {
+returns-in_ok-overflow_text-in-Strained c = strained (record {
   problem = c.args.problem.now;
   scope = in_scope c.args.bytes.now c.args.problem.now c.requires.counted c.in-Strained.ensures.scope;
   lines = c.in-Strained.ensures.lines;
@@ -32,19 +33,19 @@ returns-in_ok-overflow_text-in-Strained c = record {
   strain = c.in-Strained.strain;
   strained = c.in-Strained.ensures.strain;
   written = c.in_ok-overflow_text-in-Strained.ensures;
-}
+})
 
 pub returns-in_ok-sat_text-in-Sat : goal.returns-in_ok-sat_text-in-Sat
-returns-in_ok-sat_text-in-Sat c = record {
+returns-in_ok-sat_text-in-Sat c = satisfiable (record {
   problem = c.args.problem.now;
   scope = in_scope c.args.bytes.now c.args.problem.now c.requires.counted c.in-Sat.ensures.scope;
   structure = c.in-Sat.structure;
   satisfied = c.in-Sat.ensures.satisfied;
   written = c.in_ok-sat_text-in-Sat.ensures;
-}
+})
 
 pub returns-in_ok-unsat_text-in-Unsat : goal.returns-in_ok-unsat_text-in-Unsat
-returns-in_ok-unsat_text-in-Unsat c = record {
+returns-in_ok-unsat_text-in-Unsat c = unsatisfiable (record {
   problem = c.args.problem.now;
   scope = in_scope c.args.bytes.now c.args.problem.now c.requires.counted c.in-Unsat.ensures.scope;
   lines = c.in-Unsat.ensures.lines;
@@ -56,10 +57,10 @@ returns-in_ok-unsat_text-in-Unsat c = record {
   spelled = c.in-Unsat.ensures.spelled (names_on_one_line c.args.bytes.now c.args.problem.now c.requires.counted.sorted.read);
   none = c.in-Unsat.ensures.none;
   written = c.in_ok-unsat_text-in-Unsat.ensures;
-}
+})
 
 pub returns-in_ok-spent_text-in-Spent : goal.returns-in_ok-spent_text-in-Spent
-returns-in_ok-spent_text-in-Spent c = record {
+returns-in_ok-spent_text-in-Spent c = out_of_nodes (record {
   problem = c.args.problem.now;
   scope = in_scope c.args.bytes.now c.args.problem.now c.requires.counted c.in-Spent.ensures.scope;
   lines = c.in-Spent.ensures.lines;
@@ -70,4 +71,4 @@ returns-in_ok-spent_text-in-Spent c = record {
   listed = c.in-Spent.ensures.listed;
   spelled = c.in-Spent.ensures.spelled (names_on_one_line c.args.bytes.now c.args.problem.now c.requires.counted.sorted.read);
   written = c.in_ok-spent_text-in-Spent.ensures;
-}
+})

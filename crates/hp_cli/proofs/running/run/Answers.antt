@@ -1,9 +1,9 @@
-use Rattle.std.proofs.Common.{◌≡◌, ◌∙◌, ℕ, refl, sym, subst}
-use Rattle.hp_cli.specs.Answer.{HasEnded, IsDecided, code}
+use Rattle.std.proofs.Common.{◌∙◌, sym, ap}
+use Rattle.hp_cli.specs.Answer.{code}
 use Rattle.hp_cli.specs.declared.answer.Status.TheVariants.{Usage, ReadFault, WriteFault}
 use Rattle.hp_cli.proofs.Codes.{same_code}
 use Rattle.hp_cli.proofs.Settled.{stands_settled}
-use Rattle.hp_cli.proofs.Tells.{told_both}
+use Rattle.hp_cli.proofs.Tells.{told_left, told_map}
 use Rattle.hp_cli.proofs.running.run.Goals as goal
 
 pub returns-clause-usage : goal.returns-clause-usage
@@ -16,14 +16,13 @@ pub returns-clause-write_fault : goal.returns-clause-write_fault
 returns-clause-write_fault g c = λ e. c.outcome.ensures.write_fault (same_code _ WriteFault (sym c.code.ensures ∙ e))
 
 pub returns-clause-end : goal.returns-clause-end
-returns-clause-end g c = λ s decided e.
-    let same = same_code s c.outcome.result (sym e ∙ c.code.ensures) in
-    subst (HasEnded _ _) (sym same) (c.outcome.ensures.end (subst IsDecided same decided))
+returns-clause-end g c = λ task asked not_read not_memory.
+    c.outcome.ensures.end task asked (λ e. not_read (c.code.ensures ∙ ap code e)) (λ e. not_memory (c.code.ensures ∙ ap code e))
 
 pub returns-clause-settled : goal.returns-clause-settled
 returns-clause-settled g c = λ solving.
-    told_both _ _ _ _ _ (λ bytes out stands. λ p scope. (c.outcome.result, stands_settled bytes out p scope _ c.outcome.result solving stands, c.code.ensures)) c.outcome.ensures.content
+    told_left _ _ _ _ _ (λ bytes out stands. λ p scope. (c.outcome.result, stands_settled bytes out p scope _ c.outcome.result solving stands, c.code.ensures)) c.outcome.ensures.content
 
 pub returns-clause-content : goal.returns-clause-content
 returns-clause-content g c =
-    told_both _ _ _ _ _ (λ bytes out stands. record { status = c.outcome.result; coded = c.code.ensures; stands = stands }) c.outcome.ensures.content
+    told_map _ _ _ _ _ (λ bytes out stands. record { status = c.outcome.result; coded = c.code.ensures; stands = stands }) c.outcome.ensures.content
