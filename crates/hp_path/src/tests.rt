@@ -184,7 +184,7 @@ fn quick_numbers(alloc: Global, sides: &[Side]) -> Result<List<i128>, AllocError
     match quickly(alloc, sides)? {
         Quick::Values(values) => push_values(&mut numbers, &values)?,
         Quick::Leaf(proof) => push_leaf(&mut numbers, &proof)?,
-        Quick::Unknown => {}
+        Quick::Unknown(_) => {}
     }
     Ok(numbers)
 }
@@ -247,7 +247,7 @@ fn strains_are_passed_on(rt: HostRuntime) -> Result<(), Fail> {
         _ => assert!(rt; false),
     }
     match quickly(rt.alloc(), &sides)? {
-        Quick::Unknown => {}
+        Quick::Unknown(components) => assert_eq!(rt; components.len(), 1),
         _ => assert!(rt; false),
     }
     Ok(())
