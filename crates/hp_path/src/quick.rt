@@ -52,12 +52,7 @@ pub fn decide_patiently(alloc: Global, names: &Names, lits: &[Lit]) -> Result<Qu
 }
 
 /// Decides literals at this pace.
-fn decide_at(
-    alloc: Global,
-    names: &Names,
-    lits: &[Lit],
-    pace: Pace,
-) -> Result<Quick, AllocError>
+fn decide_at(alloc: Global, names: &Names, lits: &[Lit], pace: Pace) -> Result<Quick, AllocError>
     requires built { All (IsBuilt (sorts names.now)) lits.now }
     requires few { length lits.now ≤ 100000 }
     ensures { IfOk result (DecidesAt (sorts names.now) pace lits.now) }

@@ -1,7 +1,9 @@
 //! What is decided with ample memory of literals whose answers are known by hand.
 ghost use Rattle.std.specs.Prelude.{◌≡◌, ◌+◌, ◌≤◌, OnOk, [], length};
 
-use crate::{Decision, Quick, are_built, component_of_last, decide, decide_patiently, decide_quickly};
+use crate::{
+    Decision, Quick, are_built, component_of_last, decide, decide_patiently, decide_quickly,
+};
 use hp_ast::Sort;
 use hp_base::{IdxLit, Lit, Name, Names, NumLit, Part, Rel, Valuation};
 use hp_descent::DescentErr;
@@ -200,6 +202,14 @@ fn push_decision(numbers: &mut List<i128>, decision: &Decision) -> Result<(), Al
     }
 }
 
+fn push_quick(numbers: &mut List<i128>, found: &Quick) -> Result<(), AllocError> {
+    match found {
+        Quick::Values(values) => push_values(numbers, values),
+        Quick::Leaf(proof) => push_leaf(numbers, proof),
+        Quick::Unknown(_) => Ok(()),
+    }
+}
+
 /// Nothing where there is no decision.
 fn decision_numbers(alloc: Global, sides: &[Side]) -> Result<List<i128>, AllocError> {
     let mut numbers = List::new(alloc);
@@ -211,11 +221,8 @@ fn decision_numbers(alloc: Global, sides: &[Side]) -> Result<List<i128>, AllocEr
 
 fn quick_numbers(alloc: Global, sides: &[Side]) -> Result<List<i128>, AllocError> {
     let mut numbers = List::new(alloc);
-    match quickly(alloc, sides)? {
-        Quick::Values(values) => push_values(&mut numbers, &values)?,
-        Quick::Leaf(proof) => push_leaf(&mut numbers, &proof)?,
-        Quick::Unknown(_) => {}
-    }
+    let found = quickly(alloc, sides)?;
+    push_quick(&mut numbers, &found)?;
     Ok(numbers)
 }
 
@@ -308,7 +315,10 @@ fn a_component_without_an_answer_hides_nothing(rt: HostRuntime) -> Result<(), Fa
     // with 0 < e and e < 0, and with i = 5 and i = 6
     let above = num(Rel::Lt, D + 1, -1, 0);
     let sides = [first, below, second, Side::Sum(5), above];
-    assert_eq!(rt; quick_numbers(rt.alloc(), &sides)?.as_slice(), [2, 1, 5, 1].as_slice());
+    assert_eq!(rt;
+        quick_numbers(rt.alloc(), &sides)?.as_slice(),
+        [2, 1, 5, 1].as_slice()
+    );
     let six = row(true, I, None, 6);
     let sides = [first, row(true, I, None, 5), second, Side::Sum(5), six];
     assert_eq!(rt; quick_numbers(rt.alloc(), &sides)?.len(), 4);

@@ -408,7 +408,13 @@ fn lines_beside(alloc: Global, beside: Beside) -> Result<Ground, AllocError>
     }
     push_step(alloc, &mut g.lines, count + 4, 0, 1)?;
     for at in 1..4 {
-        push_step(alloc, &mut g.lines, count + 4 + at, 1 - 1_000_000_000_000_000_000, 0)?;
+        push_step(
+            alloc,
+            &mut g.lines,
+            count + 4 + at,
+            1 - 1_000_000_000_000_000_000,
+            0,
+        )?;
     }
     push_end(alloc, &mut g.lines, beside.end)?;
     Ok(g)
@@ -421,9 +427,18 @@ fn is_strain_of_three(found: &Option<Result<Found, SearchErr>>, before: u32) -> 
             Place::Path(path) => {
                 path.as_slice()
                     == [
-                        Choice { line: before + 1, lit: 1 },
-                        Choice { line: before + 2, lit: 1 },
-                        Choice { line: before + 3, lit: 1 },
+                        Choice {
+                            line: before + 1,
+                            lit: 1,
+                        },
+                        Choice {
+                            line: before + 2,
+                            lit: 1,
+                        },
+                        Choice {
+                            line: before + 3,
+                            lit: 1,
+                        },
                     ]
                     .as_slice()
             }

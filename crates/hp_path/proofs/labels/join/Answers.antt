@@ -17,7 +17,7 @@ loop-part-preserved c =
     let kept = c.first_label-kept.result in
     let gone = c.get-gone.result.now in
     let more = part_joined c.args.labels.now c.loop-part.labels c.if-kept-gone.labels c.args.parts.now c.loop-part.part-index none kept gone
-        c.requires.names c.loop-part-test.true c.loop-part.invariant c.first_label-kept.ensures c.get-gone.ensures in
+    c.requires.names c.loop-part-test.true c.loop-part.invariant c.first_label-kept.ensures c.get-gone.ensures in
     elim c.if-kept-gone.branch [
       | then-kept-gone w ↦ more (w.labels-is ∙ w.merge.ensures)
       | else-kept-gone w ↦ more (w.labels-is ∙ sym (merged_same c.loop-part.labels kept gone w.if-kept-gone.false))
