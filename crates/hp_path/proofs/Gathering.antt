@@ -1,5 +1,5 @@
 -- The literals of one label, and values for all literals from values for those of each label.
-use Rattle.std.proofs.Common.{◌≡◌, ℕ, zero, suc, ◌+◌, ◌<◌, ◌≤◌, ◌++◌, inl, inr, refl, sym, ◌∙◌, ap, subst, arith, List, [], ◌∷◌, length, map, get_or, cond, take, drop, set, Some, append_assoc, Bool, true, false, replicate}
+use Rattle.std.proofs.Common.{◌≡◌, ℕ, zero, suc, ◌+◌, ◌<◌, ◌≤◌, ◌++◌, inl, inr, refl, sym, ◌∙◌, ap, subst, arith, List, [], ◌∷◌, length, length-append, map, get_or, cond, take, drop, set, Some, append_assoc, Bool, true, false, replicate}
 use Rattle.std.specs.Prelude.{slice_get}
 use Rattle.std.specs.List.{All, Contains, filter}
 use Rattle.std.proofs.lemmas.Bool.{cases_eq, eq-eqb, eqb-true, ne_eqb}
@@ -17,7 +17,8 @@ use Rattle.hp_descent.specs.Columns.{columns, mentioned, part_names}
 use Rattle.hp_descent.specs.Answers.{IsSolution}
 use Rattle.hp_descent.proofs.Rising.{columns_are_names}
 use Rattle.hp_leaf.specs.Renumbered.{Stands, StandsFrom}
-use Rattle.hp_path.specs.Components.{AreLabels, AreSolved, IsOneLabel, first_label, has_label, is_done, label_at, places_with}
+use Rattle.hp_path.specs.declared.components.Pace.{Pace}
+use Rattle.hp_path.specs.Components.{AreLabels, AreSettled, AreSolved, IsGivenUp, IsOneLabel, first_label, has_label, is_done, label_at, label_of_last, places_with}
 use Rattle.hp_path.specs.Placed.{AreSolving, HasValue}
 use Rattle.hp_path.proofs.Places.{apart_append}
 use Rattle.hp_path.proofs.Mixed.{All-left, All-right, names_all}
@@ -177,6 +178,14 @@ label_small labels nums l i h b e = of_parts l.parts (subst (λ (x : NumLit). Al
     of_parts [] n = omega arith
     of_parts (p ∷ ps) n = let s = h.below p.name.0 0 (All-head (λ (p : Part). p.name.0 < length labels) p ps n) in omega (arith, s)
 
+-- the label of the last literal
+pub last_label : (labels : List ℕ) (nums : List NumLit) (i : ℕ) (l : NumLit) → slice_get nums i ≡ Some l → i + 1 ≡ length nums → first_label labels l.parts ≡ label_of_last labels nums
+last_label labels [] i l g e = absurd (omega (arith, e))
+last_label labels (m ∷ []) zero l g e = let same : m ≡ l = cc in ap (λ (x : NumLit). first_label labels x.parts) (sym same)
+last_label labels (m ∷ []) (suc i) l g e = absurd (omega (arith, e))
+last_label labels (m ∷ n ∷ ls) zero l g e = absurd (omega (arith, e))
+last_label labels (m ∷ n ∷ ls) (suc i) l g e = last_label labels (n ∷ ls) i l g (omega (arith, e))
+
 module _ (ss : List Sort) (labels : List ℕ) (nums : List NumLit) where
   pub solved_none : (done : List Bool) → done ≡ replicate (length labels + 1) false → AreSolved ss labels nums 0 done []
   solved_none done e = record {
@@ -227,3 +236,39 @@ module _ (ss : List Sort) (labels : List ℕ) (nums : List NumLit) where
   solved_all i done values l s =
       let all = subst (All (λ (l : NumLit). is_done done (first_label labels l.parts) ≡ true)) (take_all i nums l) s.earlier in
       record { sorted = s.sorted; apart = s.apart; keeps = λ v h k c m. s.keeps v h k c m (all k c m) }
+
+-- as long as nothing is without an answer
+module _ (ss : List Sort) (p : Pace) (labels : List ℕ) (nums : List NumLit) (places : List ℕ) where
+  pub settled_none : (done : List Bool) (values : List NameValue) (unknown : List (List ℕ)) → done ≡ replicate (length labels + 1) false → values ≡ [] → unknown ≡ []
+      → AreSettled ss p labels nums places 0 done values unknown
+  settled_none done values unknown e v u =
+      let s = subst (AreSolved ss labels nums 0 done) (sym v) (solved_none ss labels nums done e) in
+      record { count = s.count; solved = λ _. s; given_up = subst (All (IsGivenUp p nums places)) (sym u) (All-nil (IsGivenUp p nums places)) }
+
+  module _ (i : ℕ) (d : NumLit) (done done2 : List Bool) (values values2 : List NameValue) where
+    pub settled_past : (unknown unknown2 : List (List ℕ)) → i < length nums → AreSettled ss p labels nums places i done values unknown
+        → is_done done (first_label labels (get_or nums i d).parts) ≡ true → done2 ≡ done → values2 ≡ values → unknown2 ≡ unknown → AreSettled ss p labels nums places (i + 1) done2 values2 unknown2
+    settled_past unknown unknown2 l s e d2 v2 u2 = record {
+      count = ap length d2 ∙ s.count;
+      solved = λ none. subst (λ q. AreSolved ss labels nums (i + 1) q values2) (sym d2) (subst (AreSolved ss labels nums (i + 1) done) (sym v2) (solved_past ss labels nums i d done values l (s.solved (sym u2 ∙ none)) e));
+      given_up = subst (All (IsGivenUp p nums places)) (sym u2) s.given_up;
+    }
+
+    pub settled_found : (more : List NameValue) (unknown unknown2 : List (List ℕ)) (label : ℕ) → i < length nums → AreSettled ss p labels nums places i done values unknown
+        → label ≡ first_label labels (get_or nums i d).parts → label < length done → is_done done label ≡ false
+        → AreSolving ss (filter (has_label labels label) nums) more → All (λ nv. label_at labels nv.name.0 ≡ label) more
+        → done2 ≡ set done label true → values2 ≡ values ++ more → unknown2 ≡ unknown → AreSettled ss p labels nums places (i + 1) done2 values2 unknown2
+    settled_found more unknown unknown2 label l s e b f g names d2 v2 u2 = record {
+      count = ap length d2 ∙ length-set done label true ∙ s.count;
+      solved = λ none. subst (λ q. AreSolved ss labels nums (i + 1) q values2) (sym d2)
+          (subst (AreSolved ss labels nums (i + 1) (set done label true)) (sym v2) (solved_more ss labels nums i d done values more label l (s.solved (sym u2 ∙ none)) e b f g names));
+      given_up = subst (All (IsGivenUp p nums places)) (sym u2) s.given_up;
+    }
+
+    pub settled_unknown : (unknown unknown2 : List (List ℕ)) (component : List ℕ) (label : ℕ) → AreSettled ss p labels nums places i done values unknown
+        → done2 ≡ set done label true → unknown2 ≡ unknown ++ component ∷ [] → IsGivenUp p nums places component → AreSettled ss p labels nums places (i + 1) done2 values2 unknown2
+    settled_unknown unknown unknown2 component label s d2 u2 g = record {
+      count = ap length d2 ∙ length-set done label true ∙ s.count;
+      solved = λ none. absurd (let n = ap length (sym u2 ∙ none) in let m = length-append unknown (component ∷ []) in omega (arith, n, m));
+      given_up = subst (All (IsGivenUp p nums places)) (sym u2) (All-append (IsGivenUp p nums places) unknown (component ∷ []) s.given_up (All-cons (IsGivenUp p nums places) component [] g (All-nil (IsGivenUp p nums places))));
+    }

@@ -47,6 +47,18 @@ merged_kept kept gone = elim (cases_eq kept gone) [
   | inr n ↦ ap (λ b. cond b kept kept) (ne_eqb kept gone n)
 ]
 
+merged_self : (labels : List ℕ) (k : ℕ) → map (merged k k) labels ≡ labels
+merged_self [] k = refl
+merged_self (x ∷ xs) k =
+    let first : merged k k x ≡ x = elim (cases_eq x k) [
+      | inl e ↦ ap (λ b. cond b k x) (eq-eqb x k e) ∙ sym e
+      | inr n ↦ ap (λ b. cond b k x) (ne_eqb x k n)
+    ] in
+    (λ i. first i ∷ merged_self xs k i)
+
+pub merged_same : (labels : List ℕ) (kept gone : ℕ) → kept ≡ gone → map (merged kept gone) labels ≡ labels
+merged_same labels kept gone e = ap (λ k. map (merged k gone) labels) e ∙ merged_self labels gone
+
 pub merge_coarser : (labels : List ℕ) (kept gone : ℕ) → Contains labels kept → IsCoarser labels (map (merged kept gone) labels)
 merge_coarser labels kept gone c = record {
   count = length-map labels (merged kept gone);

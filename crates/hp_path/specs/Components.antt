@@ -1,12 +1,16 @@
 -- Literals over fractions that share no name, directly or through others: labels tell them apart.
 use Rattle.std.specs.Prelude.{◌≡◌, ℕ, ◌+◌, ◌<◌, List, [], ◌∷◌, Bool, true, false, Some, length, nat_eq, if◌then◌else◌, slice_get, slice_index_or, take}
-use Rattle.std.specs.List.{All, Contains}
+use Rattle.std.specs.List.{All, Contains, filter}
 use Rattle.hp_base.specs.declared.literal.Part.{Part}
 use Rattle.hp_base.specs.declared.literal.NumLit.{NumLit}
 use Rattle.hp_base.specs.declared.valuation.NameValue.{NameValue}
 use Rattle.hp_base.specs.Truth.{Values, NumIsTrue}
 use Rattle.hp_ast.specs.declared.problem.Sort.{Sort}
 use Rattle.hp_ast.specs.declared.problem.Sort.TheVariants as sort
+use Rattle.hp_descent.specs.declared.answer.RowStrain.{RowStrain}
+use Rattle.hp_descent.specs.Answers.{IsStrained}
+use Rattle.hp_path.specs.declared.components.Pace.{Pace}
+use Rattle.hp_path.specs.declared.components.Pace.TheVariants as pace
 use Rattle.hp_path.specs.Placed.{AreApart, HasValue}
 
 -- the label of a name
@@ -51,6 +55,36 @@ places_with labels label [] places = []
 places_with labels label (l ∷ ls) [] = []
 places_with labels label (l ∷ ls) (p ∷ ps) = if has_label labels label l then p ∷ places_with labels label ls ps else places_with labels label ls ps
 
+-- the label of the last literal, and 0 where there is none
+abbrev pub label_of_last : List ℕ → List NumLit → ℕ
+label_of_last labels [] = 0
+label_of_last labels (l ∷ []) = first_label labels l.parts
+label_of_last labels (l ∷ m ∷ ls) = label_of_last labels (m ∷ ls)
+
+-- the places of the literals that have the label of the last one, so that no other literal shares a name with them
+pub record IsComponentOfLast (nums : List NumLit) (places component : List ℕ) : Type 0 where
+  pub labels : List ℕ
+  pub are : AreLabels labels nums
+  pub is : component ≡ places_with labels (label_of_last labels nums) nums places
+
+-- a number of the descent over these literals is too wide
+pub record AreStrained (nums : List NumLit) : Type 0 where
+  pub row : RowStrain
+  pub strained : IsStrained nums row
+
+-- why literals have no answer: where the simplex gives up nothing is claimed, and the descent gives up where it is strained
+abbrev pub AreGivenUp : Pace → List NumLit → Type 0
+AreGivenUp pace.Quick nums = Unit {0}
+AreGivenUp pace.Patient nums = AreStrained nums
+
+-- the places of the literals of one label, so that no other literal shares a name with them, and these have no answer
+pub record IsGivenUp (p : Pace) (nums : List NumLit) (places component : List ℕ) : Type 0 where
+  pub labels : List ℕ
+  pub label : ℕ
+  pub are : AreLabels labels nums
+  pub is : component ≡ places_with labels label nums places
+  pub given_up : AreGivenUp p (filter (has_label labels label) nums)
+
 -- whether the literals with this label have been decided
 abbrev pub is_done : List Bool → ℕ → Bool
 is_done done label = slice_index_or done label false
@@ -64,3 +98,9 @@ pub record AreSolved (sorts : List Sort) (labels : List ℕ) (nums : List NumLit
   pub names : All (λ nv. is_done done (label_at labels nv.name.0) ≡ true) values
   pub sorted : All (λ nv. slice_get sorts nv.name.0 ≡ Some sort.Num) values
   pub apart : AreApart values
+
+-- As long as no label is without an answer, all is solved. What has none is named.
+pub record AreSettled (sorts : List Sort) (p : Pace) (labels : List ℕ) (nums : List NumLit) (places : List ℕ) (i : ℕ) (done : List Bool) (values : List NameValue) (unknown : List (List ℕ)) : Type 0 where
+  pub count : length done ≡ length labels + 1
+  pub solved : unknown ≡ [] → AreSolved sorts labels nums i done values
+  pub given_up : All (IsGivenUp p nums places) unknown

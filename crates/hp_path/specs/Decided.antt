@@ -16,7 +16,11 @@ use Rattle.hp_path.specs.declared.deciding.Decision.{Decision}
 use Rattle.hp_path.specs.declared.deciding.Decision.TheVariants as decision
 use Rattle.hp_path.specs.declared.quick.Quick.{Quick}
 use Rattle.hp_path.specs.declared.quick.Quick.TheVariants as quick
+use Rattle.hp_path.specs.declared.components.Pace.{Pace}
+use Rattle.hp_path.specs.declared.components.Pace.TheVariants as pace
 use Rattle.hp_path.specs.Built.{num_lits}
+use Rattle.hp_path.specs.Parted.{num_places}
+use Rattle.hp_path.specs.Components.{IsGivenUp}
 
 -- each name of sort idx has a whole number of a magnitude of at most 10^37
 abbrev pub AreSmallIdx : List Sort → Values → Type 0
@@ -40,8 +44,16 @@ Decides sorts lits (Ok (decision.Values v chain)) = AreValuesFor sorts lits v.va
 Decides sorts lits (Ok (decision.Leaf proof)) = IsValid lits proof
 Decides sorts lits (Err e) = IsCause (num_lits lits) e
 
--- no answer claims nothing
+-- of a decision by components: those without an answer are named by the places of their literals
+abbrev pub DecidesAt : List Sort → Pace → List Lit → Quick → Type 0
+DecidesAt sorts p lits (quick.Values v) = AreValuesFor sorts lits v.values
+DecidesAt sorts p lits (quick.Leaf proof) = IsValid lits proof
+DecidesAt sorts p lits (quick.Unknown components) = All (IsGivenUp p (num_lits lits) (num_places 1 lits)) components
+
+-- where the simplex gives up, there is no answer
 abbrev pub DecidesQuickly : List Sort → List Lit → Quick → Type 0
-DecidesQuickly sorts lits (quick.Values v) = AreValuesFor sorts lits v.values
-DecidesQuickly sorts lits (quick.Leaf proof) = IsValid lits proof
-DecidesQuickly sorts lits quick.Unknown = Unit {0}
+DecidesQuickly sorts lits q = DecidesAt sorts pace.Quick lits q
+
+-- where the simplex gives up the descent decides, and there is no answer where it is strained
+abbrev pub DecidesPatiently : List Sort → List Lit → Quick → Type 0
+DecidesPatiently sorts lits q = DecidesAt sorts pace.Patient lits q

@@ -1,38 +1,65 @@
 //! The literals over fractions of a path, decided by components: literals that share no name, directly or through
 //! others, are decided apart from each other.
 //!
-//! Each component goes to the simplex, and to the descent where that gives up, which may take a time that doubles with
-//! each literal. Over literals that share no name it would take the product of the times of the components, and here it
-//! takes their sum.
+//! Each component goes to the simplex. A component for which that gives up is named, so that it hides no contradiction of
+//! another one, or goes to the descent first, whose time may double with each literal: over literals that share no name
+//! it would take the product of the times of the components, and here it takes their sum.
 ghost use Rattle.std.specs.Prelude.{◌≡◌, ◌≤◌, ◌+◌, IfOk, length, map, false, replicate};
 ghost use Rattle.std.specs.List.{All, filter};
 ghost use Rattle.hp_base.specs.Names.{sorts};
 ghost use Rattle.hp_base.specs.declared.literal.Lit.TheVariants.{Num};
+ghost use Rattle.hp_descent.specs.Columns.{AreFit};
 ghost use Rattle.hp_leaf.specs.Renumbered.{Stands};
 ghost use Rattle.hp_path.specs.Built.{IsBuilt, IsNumOver, num_lits};
 ghost use Rattle.hp_path.specs.Components.{AreLabels, has_label, places_with};
-ghost use Rattle.hp_path.specs.Parted.{AreParts};
-ghost use Rattle.hp_path.specs.Sides.{AreOfLabel, DecidesNums};
+ghost use Rattle.hp_path.specs.Parted.{AreParts, num_places};
+ghost use Rattle.hp_path.specs.Sides.{AreOfLabel, DecidesNums, DecidesPart, Tells};
 
 use crate::labels::{first_label, labels_of};
 use crate::parting::{Parts, copy_num};
 use crate::placing::push_values;
-use hp_base::{Lit, Names, NumLit};
+use hp_base::{Lit, NameValue, Names, NumLit, Share};
 use hp_descent::{DescentErr, NumAnswer};
 use hp_leaf::renumber_shares;
 use hp_num::List;
-use hp_simplex::decide;
+use hp_simplex::{Attempt, attempt, decide};
 use std::alloc::{AllocError, Global};
+
+/// Whether a component for which the simplex gives up goes to the descent.
+#[derive(Clone, Copy)]
+pub enum Pace {
+    Quick,
+    Patient,
+}
+
+/// What is found of literals over fractions, in the numbers that literals have along the path.
+#[derive(Drop)]
+pub enum Apart {
+    /// Values of names that make all of them true.
+    Point(List<NameValue>),
+    /// A combination of them.
+    Farkas(List<Share>),
+    /// The components without an answer, each as the numbers of its literals, which rise.
+    Unknown(List<List<u32>>),
+}
+
+/// What is found of the literals of one label.
+#[derive(Drop)]
+enum Side {
+    Point(List<NameValue>),
+    Farkas(List<Share>),
+    Unknown(List<u32>),
+}
 
 /// The literals of one label, in their order, and the number of each along the path.
 #[derive(Drop)]
-struct Component {
-    nums: List<NumLit>,
-    places: List<u32>,
+pub struct Component {
+    pub nums: List<NumLit>,
+    pub places: List<u32>,
 }
 
 /// The literals of a label.
-fn component_of(
+pub fn component_of(
     alloc: Global,
     labels: &List<u32>,
     label: u32,
@@ -67,6 +94,22 @@ fn none_done(alloc: Global, last: usize) -> Result<List<bool>, AllocError>
     Ok(done)
 }
 
+/// The answer of the simplex, or of the descent where that gives up and there is time for it.
+fn answer_at(alloc: Global, pace: Pace, nums: &[NumLit]) -> Result<Attempt, AllocError>
+    requires { AreFit nums.now }
+    ensures { IfOk result (Tells pace nums.now) }
+{
+    match pace {
+        Pace::Quick => attempt(alloc, nums),
+        Pace::Patient => match decide(alloc, nums) {
+            Ok(NumAnswer::Point(values)) => Ok(Attempt::Point(values)),
+            Ok(NumAnswer::Farkas(shares)) => Ok(Attempt::Farkas(shares)),
+            Err(DescentErr::Strain(_)) => Ok(Attempt::Unknown),
+            Err(DescentErr::Memory) => Err(AllocError),
+        },
+    }
+}
+
 /// As `decide_nums`, for the literals of a label.
 fn decide_component(
     alloc: Global,
@@ -75,21 +118,23 @@ fn decide_component(
     parts: &Parts,
     labels: &List<u32>,
     label: u32,
-) -> Result<NumAnswer, DescentErr>
+    pace: Pace,
+) -> Result<Side, AllocError>
     requires over { All (IsNumOver (sorts names.now)) parts.now.nums }
     requires few { length parts.now.nums ≤ 100000 }
     requires stand { Stands lits.now (map Num parts.now.nums) parts.now.num_places }
     requires labels { AreLabels labels.now parts.now.nums }
-    ensures decided { DecidesNums (sorts names.now) lits.now (filter (has_label labels.now label) parts.now.nums) result }
-    ensures names { AreOfLabel labels.now label result }
+    ensures decided { IfOk result (DecidesPart (sorts names.now) pace lits.now parts.now labels.now label) }
+    ensures names { IfOk result (AreOfLabel labels.now label) }
 {
     let component = component_of(alloc, labels, label, parts)?;
-    match decide(alloc, component.nums.as_slice())? {
-        NumAnswer::Point(values) => Ok(NumAnswer::Point(values)),
-        NumAnswer::Farkas(shares) => {
+    match answer_at(alloc, pace, component.nums.as_slice())? {
+        Attempt::Point(values) => Ok(Side::Point(values)),
+        Attempt::Farkas(shares) => {
             let shares = renumber_shares(alloc, component.places.as_slice(), shares.as_slice())?;
-            Ok(NumAnswer::Farkas(shares))
+            Ok(Side::Farkas(shares))
         }
+        Attempt::Unknown => Ok(Side::Unknown(component.places)),
     }
 }
 
@@ -100,43 +145,49 @@ fn decide_apart(
     lits: &[Lit],
     parts: &Parts,
     labels: &List<u32>,
-) -> Result<NumAnswer, DescentErr>
+    pace: Pace,
+) -> Result<Apart, AllocError>
     requires over { All (IsNumOver (sorts names.now)) parts.now.nums }
     requires few { length parts.now.nums ≤ 100000 }
     requires stand { Stands lits.now (map Num parts.now.nums) parts.now.num_places }
     requires labels { AreLabels labels.now parts.now.nums }
-    ensures { DecidesNums (sorts names.now) lits.now parts.now.nums result }
+    ensures { IfOk result (DecidesNums (sorts names.now) pace lits.now parts.now.nums parts.now.num_places) }
 {
     let mut done = none_done(alloc, labels.len())?;
     let mut values = List::new(alloc);
+    let mut unknown = List::new(alloc);
     for lit in parts.nums.as_slice() {
         let label = first_label(labels, lit.parts.as_slice());
         if !*done.get(label as usize) {
-            match decide_component(alloc, names, lits, parts, labels, label)? {
-                NumAnswer::Point(more) => {
-                    push_values(&mut values, more.as_slice())?;
-                    done.set(label as usize, true);
-                }
-                NumAnswer::Farkas(shares) => return Ok(NumAnswer::Farkas(shares)),
+            done.set(label as usize, true);
+            match decide_component(alloc, names, lits, parts, labels, label, pace)? {
+                Side::Point(more) => push_values(&mut values, more.as_slice())?,
+                Side::Unknown(places) => unknown.push(places)?,
+                Side::Farkas(shares) => return Ok(Apart::Farkas(shares)),
             }
         }
     }
-    Ok(NumAnswer::Point(values))
+    if unknown.len() == 0 {
+        Ok(Apart::Point(values))
+    } else {
+        Ok(Apart::Unknown(unknown))
+    }
 }
 
 /// Values that make the literals over fractions true, or a combination of them in the numbers that literals have along
-/// the path. A strain is one over the literals of some component.
+/// the path. Components without an answer are named where no component has a combination.
 pub fn decide_nums(
     alloc: Global,
     names: &Names,
     lits: &[Lit],
     parts: &Parts,
-) -> Result<NumAnswer, DescentErr>
+    pace: Pace,
+) -> Result<Apart, AllocError>
     requires built { All (IsBuilt (sorts names.now)) lits.now }
     requires few { length lits.now ≤ 100000 }
     requires parts { AreParts lits.now parts.now }
-    ensures { DecidesNums (sorts names.now) lits.now (num_lits lits.now) result }
+    ensures { IfOk result (DecidesNums (sorts names.now) pace lits.now (num_lits lits.now) (num_places 1 lits.now)) }
 {
     let labels = labels_of(alloc, names, parts.nums.as_slice())?;
-    decide_apart(alloc, names, lits, parts, &labels)
+    decide_apart(alloc, names, lits, parts, &labels, pace)
 }

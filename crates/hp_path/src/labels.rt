@@ -53,7 +53,9 @@ fn join(labels: &mut List<u32>, parts: &[Part])
     for part in parts {
         let kept = first_label(labels, parts);
         let gone = *labels.get(part.name.0 as usize);
-        merge(labels, kept, gone);
+        if kept != gone {
+            merge(labels, kept, gone);
+        }
     }
 }
 

@@ -2,6 +2,7 @@
 //! strain over the literals over fractions.
 #![tactic(auto)]
 
+mod belonging;
 mod built;
 mod components;
 mod deciding;
@@ -11,9 +12,10 @@ mod placing;
 mod quick;
 mod rows;
 
+pub use belonging::component_of_last;
 pub use built::are_built;
 pub use deciding::{Decision, decide};
-pub use quick::{Quick, decide_quickly};
+pub use quick::{Quick, decide_patiently, decide_quickly};
 
 #[cfg(test)]
 mod tests;

@@ -1,7 +1,9 @@
 //! What is decided with ample memory of literals whose answers are known by hand.
 ghost use Rattle.std.specs.Prelude.{◌≡◌, ◌+◌, ◌≤◌, OnOk, [], length};
 
-use crate::{Decision, Quick, are_built, decide, decide_quickly};
+use crate::{
+    Decision, Quick, are_built, component_of_last, decide, decide_patiently, decide_quickly,
+};
 use hp_ast::Sort;
 use hp_base::{IdxLit, Lit, Name, Names, NumLit, Part, Rel, Valuation};
 use hp_descent::DescentErr;
@@ -134,6 +136,36 @@ fn quickly(alloc: Global, sides: &[Side]) -> Result<Quick, AllocError> {
     decide_quickly(alloc, &names, lits.as_slice())
 }
 
+/// As `quickly`, with the descent where the simplex gives up.
+fn patiently(alloc: Global, sides: &[Side]) -> Result<Quick, AllocError> {
+    let names = all_names(alloc)?;
+    let lits = literals(alloc, sides)?;
+    if lits.len() > 100_000 || !are_built(&names, lits.as_slice()) {
+        return Err(AllocError);
+    }
+    decide_patiently(alloc, &names, lits.as_slice())
+}
+
+/// The numbers of the literals of the component of the last one.
+fn beside_last(alloc: Global, sides: &[Side]) -> Result<List<u32>, AllocError> {
+    let names = all_names(alloc)?;
+    let lits = literals(alloc, sides)?;
+    if lits.len() > 100_000 || !are_built(&names, lits.as_slice()) {
+        return Err(AllocError);
+    }
+    component_of_last(alloc, &names, lits.as_slice())
+}
+
+/// Whether one component has no answer, and has literals of these numbers.
+fn is_unknown(found: &Quick, numbers: &[u32]) -> bool {
+    match found {
+        Quick::Unknown(components) => {
+            components.len() == 1 && components.get(0).as_slice() == numbers
+        }
+        _ => false,
+    }
+}
+
 /// The numerator and denominator of each value.
 fn push_values(numbers: &mut List<i128>, values: &Valuation) -> Result<(), AllocError> {
     for value in values.values.as_slice() {
@@ -170,6 +202,14 @@ fn push_decision(numbers: &mut List<i128>, decision: &Decision) -> Result<(), Al
     }
 }
 
+fn push_quick(numbers: &mut List<i128>, found: &Quick) -> Result<(), AllocError> {
+    match found {
+        Quick::Values(values) => push_values(numbers, values),
+        Quick::Leaf(proof) => push_leaf(numbers, proof),
+        Quick::Unknown(_) => Ok(()),
+    }
+}
+
 /// Nothing where there is no decision.
 fn decision_numbers(alloc: Global, sides: &[Side]) -> Result<List<i128>, AllocError> {
     let mut numbers = List::new(alloc);
@@ -181,11 +221,8 @@ fn decision_numbers(alloc: Global, sides: &[Side]) -> Result<List<i128>, AllocEr
 
 fn quick_numbers(alloc: Global, sides: &[Side]) -> Result<List<i128>, AllocError> {
     let mut numbers = List::new(alloc);
-    match quickly(alloc, sides)? {
-        Quick::Values(values) => push_values(&mut numbers, &values)?,
-        Quick::Leaf(proof) => push_leaf(&mut numbers, &proof)?,
-        Quick::Unknown => {}
-    }
+    let found = quickly(alloc, sides)?;
+    push_quick(&mut numbers, &found)?;
     Ok(numbers)
 }
 
@@ -246,10 +283,7 @@ fn strains_are_passed_on(rt: HostRuntime) -> Result<(), Fail> {
         Err(DescentErr::Strain(_)) => {}
         _ => assert!(rt; false),
     }
-    match quickly(rt.alloc(), &sides)? {
-        Quick::Unknown => {}
-        _ => assert!(rt; false),
-    }
+    assert!(rt; is_unknown(&quickly(rt.alloc(), &sides)?, [1, 2, 3].as_slice()));
     Ok(())
 }
 
@@ -266,5 +300,44 @@ fn components_are_decided_apart(rt: HostRuntime) -> Result<(), Fail> {
     sides.push(num(Rel::Lt, C + 6, -1, 0))?;
     let numbers = quick_numbers(rt.alloc(), &sides)?;
     assert_eq!(rt; numbers.as_slice(), [7, 1, 25, 1].as_slice());
+    Ok(())
+}
+
+#[test]
+fn a_component_without_an_answer_hides_nothing(rt: HostRuntime) -> Result<(), Fail> {
+    let below = num(Rel::Lt, D + 1, 1, 0);
+    let first = num(Rel::Eq, C, LONG, 1);
+    let second = num(Rel::Eq, D, LONG + 1, 1);
+    // the component that is strained stands between the literals of others
+    let sides = [first, below, second, Side::Sum(5), row(true, I, None, 5)];
+    assert!(rt; is_unknown(&quickly(rt.alloc(), &sides)?, [1, 3, 4].as_slice()));
+    assert!(rt; is_unknown(&patiently(rt.alloc(), &sides)?, [1, 3, 4].as_slice()));
+    // with 0 < e and e < 0, and with i = 5 and i = 6
+    let above = num(Rel::Lt, D + 1, -1, 0);
+    let sides = [first, below, second, Side::Sum(5), above];
+    assert_eq!(rt;
+        quick_numbers(rt.alloc(), &sides)?.as_slice(),
+        [2, 1, 5, 1].as_slice()
+    );
+    let six = row(true, I, None, 6);
+    let sides = [first, row(true, I, None, 5), second, Side::Sum(5), six];
+    assert_eq!(rt; quick_numbers(rt.alloc(), &sides)?.len(), 4);
+    Ok(())
+}
+
+#[test]
+fn a_component_has_the_literals_that_share_names(rt: HostRuntime) -> Result<(), Fail> {
+    let below = num(Rel::Lt, D + 1, 1, 0);
+    let first = num(Rel::Eq, C, 1, 1);
+    let second = num(Rel::Eq, D, 1, 1);
+    let cases: [(&[Side], &[u32]); 4] = [
+        (&[], &[]),
+        (&[first, below, second], &[3]),
+        (&[first, below, second, Side::Sum(5)], &[1, 3, 4]),
+        (&[Side::Sum(5), below, first], &[1, 3]),
+    ];
+    for (sides, want) in cases {
+        assert_eq!(rt; beside_last(rt.alloc(), sides)?.as_slice(), want);
+    }
     Ok(())
 }

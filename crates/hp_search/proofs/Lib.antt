@@ -1,4 +1,5 @@
 pub mod Waiting
+pub mod Picking
 pub mod Opening
 pub mod Wholes
 pub mod Reading

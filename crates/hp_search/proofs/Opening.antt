@@ -15,7 +15,8 @@ use Rattle.hp_search.specs.declared.looking.Seen.{Seen}
 use Rattle.hp_search.specs.declared.looking.Seen.TheVariants.{Model as SeenModel, Split as SeenSplit, Leaf as SeenLeaf}
 use Rattle.hp_search.specs.declared.searching.SearchErr.{SearchErr}
 use Rattle.hp_search.specs.declared.searching.SearchErr.TheVariants as search_err
-use Rattle.hp_search.specs.Search.{HasChain, IsModelAt, Sees, later, MovedOn, IsAt, IsCause, IsCauseAt, IsNextAt}
+use Rattle.hp_search.specs.Search.{HasChain, IsModelAt, Sees, later, MovedOn, IsAt, IsCause, IsCauseWithin, IsNextAt}
+use Rattle.hp_search.proofs.Picking.{part_honest}
 
 module _ (sorts : List Sort) (lines : List Line) (old tree : List Node) (path : Place) (exact : Bool) (at : IsAt sorts lines old path) where
   pub path_honest : IsHonestPath sorts lines path
@@ -28,9 +29,9 @@ module _ (sorts : List Sort) (lines : List Line) (old tree : List Node) (path : 
       → IsModelAt sorts lines path v × HasChain sorts lines path v exact chain × IsHonestPath sorts lines path
   seen_model seen v chain h e = (let s : Sees sorts lines path exact (SeenModel v chain) = subst (Sees sorts lines path exact) e h in (s.0, s.1, path_honest))
 
-  -- a strain over the literals of an honest path
-  pub cause_here : (e : SearchErr) → IsCauseAt lines path e → IsCause sorts lines e
-  cause_here (search_err.Strain s) h = record { path = path; honest = path_honest; strain = h }
+  -- a strain over the literals of some choices of an honest path
+  pub cause_here : (e : SearchErr) → IsCauseWithin lines path e → IsCause sorts lines e
+  cause_here (search_err.Strain s) h = record { path = h.part; honest = part_honest sorts lines h.part path h.of path_honest; strain = h.cause }
   cause_here search_err.Memory h = tt
 
   split_reads : (n : ℕ) (seen : Seen) → Sees sorts lines path exact seen → seen ≡ SeenSplit n → tree ≡ old ++ Split n ∷ []

@@ -1,6 +1,7 @@
 -- What the search answers, and where it stands between two nodes.
 use Rattle.std.specs.Prelude.{◌≡◌, ℕ, suc, ◌+◌, ◌-◌, ◌<◌, ◌≤◌, ◌⊎◌, List, [], ◌∷◌, ◌++◌, length, Bool, true, false, Option, Some, None}
 use Rattle.std.specs.List.{All}
+use Rattle.hp_num.specs.declared.wide.Wide.{Wide}
 use Rattle.hp_base.specs.declared.line.Line.{Line}
 use Rattle.hp_base.specs.declared.literal.Lit.{Lit}
 use Rattle.hp_base.specs.declared.proof.Choice.{Choice}
@@ -15,6 +16,7 @@ use Rattle.hp_leaf.specs.Tree.{lits_at, lit_at, IsLine, Place, place_lits, child
 use Rattle.hp_base.specs.declared.literal.NumLit.{NumLit}
 use Rattle.hp_base.specs.declared.literal.Lit.TheVariants.{Num}
 use Rattle.hp_descent.specs.declared.answer.At.TheVariants as At
+use Rattle.hp_descent.specs.declared.answer.Form.TheVariants as Form
 use Rattle.hp_descent.specs.declared.answer.Place.TheVariants.{Path}
 use Rattle.hp_descent.specs.declared.answer.RowStrain.{RowStrain}
 use Rattle.hp_descent.specs.declared.answer.Strain.{Strain}
@@ -22,8 +24,8 @@ use Rattle.hp_descent.specs.Answers.{IsStrained}
 use Rattle.hp_descent.specs.Values.{IsSumStrained}
 use Rattle.hp_path.specs.Built.{num_lits}
 use Rattle.hp_path.specs.Decided.{AreOfChain, AreSmallIdx, AreValuesFor}
-use Rattle.hp_search.specs.declared.looking.Ahead.{Ahead}
-use Rattle.hp_search.specs.declared.looking.Ahead.TheVariants as ahead
+use Rattle.hp_search.specs.declared.ahead.Ahead.{Ahead}
+use Rattle.hp_search.specs.declared.ahead.Ahead.TheVariants as ahead
 use Rattle.hp_search.specs.declared.looking.QuickLook.{QuickLook}
 use Rattle.hp_search.specs.declared.looking.QuickLook.TheVariants as quick_look
 use Rattle.hp_search.specs.declared.searching.SearchErr.{SearchErr}
@@ -54,7 +56,7 @@ HasChain sorts lines place v false chain = chain ≡ None
 abbrev pub FindsAhead : List Sort → List Lit → Ahead → Type 0
 FindsAhead sorts lits (ahead.Values v suspects) = AreValuesFor sorts lits v.values
 FindsAhead sorts lits (ahead.Leaf proof) = IsValid lits proof
-FindsAhead sorts lits ahead.Unknown = Unit {0}
+FindsAhead sorts lits (ahead.Strained places) = Unit {0}
 
 abbrev pub Sees : List Sort → List Line → Place → Bool → Seen → Type 0
 Sees sorts lines place exact (SeenModel v chain) = IsModelAt sorts lines place v × HasChain sorts lines place v exact chain
@@ -66,7 +68,8 @@ SeesChain sorts lines place seen = Sees sorts lines place true seen
 
 abbrev pub Looks : List Sort → List Line → Place → QuickLook → Type 0
 Looks sorts lines place (quick_look.Seen seen) = Sees sorts lines place false seen
-Looks sorts lines place quick_look.Unknown = Unit {0}
+Looks sorts lines place (quick_look.Strained places) = Unit {0}
+Looks sorts lines place (quick_look.Wide choice) = Unit {0}
 
 -- ---- strains
 -- the sum of a literal of a line is strained at values that satisfy the literals of the place
@@ -83,6 +86,10 @@ pub record IsStrainedLit (lines : List Line) (place : Place) (s : RowStrain) : T
 abbrev pub IsStrainedAt : List Line → Place → RowStrain → Type 0
 IsStrainedAt lines place s = IsStrained (num_lits (place_lits lines place)) s ⊎ IsStrainedLit lines place s
 
+-- a strain of the sum of the literal of a choice
+abbrev pub sum_strain : List ℕ → Choice → Wide → RowStrain
+sum_strain chain choice wide = record { chain = chain; at = At.Literal choice.line choice.lit; form = Form.Sum; wide = wide }
+
 abbrev pub IsStrainOf : List Line → Place → Strain → Type 0
 IsStrainOf lines place s = (s.place ≡ Path place) × IsStrainedAt lines place s.row
 
@@ -90,6 +97,18 @@ IsStrainOf lines place s = (s.place ≡ Path place) × IsStrainedAt lines place 
 abbrev pub IsCauseAt : List Line → Place → SearchErr → Type 0
 IsCauseAt lines place (search_err.Strain s) = IsStrainOf lines place s
 IsCauseAt lines place search_err.Memory = Unit {0}
+
+-- choices of the second place, in its order
+abbrev pub IsPartOf : Place → Place → Type 0
+IsPartOf [] place = Unit {0}
+IsPartOf (c ∷ cs) [] = ⊥
+IsPartOf (c ∷ cs) (d ∷ ds) = ((c ≡ d) × IsPartOf cs ds) ⊎ IsPartOf (c ∷ cs) ds
+
+-- the same for the literals of some choices of the place
+pub record IsCauseWithin (lines : List Line) (place : Place) (e : SearchErr) : Type 0 where
+  pub part : Place
+  pub of : IsPartOf part place
+  pub cause : IsCauseAt lines part e
 
 abbrev pub IsStrainedAs : Place → RowStrain → SearchErr → Type 0
 IsStrainedAs place row (search_err.Strain s) = (s.place ≡ Path place) × (s.row ≡ row)

@@ -2,8 +2,10 @@
 //! there are none or where it is given up, or a strain where a number is too wide.
 #![tactic(auto)]
 
+mod ahead;
 mod literals;
 mod looking;
+mod parts;
 mod places;
 mod searching;
 mod singles;

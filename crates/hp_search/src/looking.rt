@@ -1,28 +1,32 @@
 //! What shows at a place of the tree: a model, a line to split, or a leaf.
 //!
 //! The literals of the path are decided together with those of all lines of one literal. Where these conflict, the path is
-//! decided alone, and the lines of the conflict are those to split first. Where a number is too wide for that, and where
-//! the values have to be those of a chain, the literals of the path alone are decided by dimension descent, whose strain
-//! is one of this path.
-ghost use Rattle.std.specs.Prelude.{◌≡◌, ◌≤◌, [], IfOk, IfErr, IfSome, length, true};
+//! decided alone, and the lines of the conflict are those to split first. Where some components of these literals have no
+//! answer, the lines of one literal that belong to them are left out, and the values leave such a line false, which is
+//! split first: so the path grows by lines of these components alone. Where a component of the path has no answer either,
+//! the strain is one over the choices of the path that belong to it.
+ghost use Rattle.std.specs.Prelude.{◌≡◌, ◌≤◌, [], IfOk, IfErr, IfSome, length};
 ghost use Rattle.std.specs.List.{All};
 ghost use Rattle.hp_base.specs.Names.{sorts};
-ghost use Rattle.hp_leaf.specs.Tree.{place_lits};
 ghost use Rattle.hp_path.specs.Decided.{AreOfChain, AreValuesFor};
 ghost use Rattle.hp_search.specs.Lines.{AreBuilt};
-ghost use Rattle.hp_search.specs.Search.{FindsAhead, IsCauseAt, IsModelAt, Looks, Sees, SeesChain};
-ghost use Rattle.hp_search.specs.Singles.{AreSinglesOf, IsLeafWithin};
+ghost use Rattle.hp_search.specs.Search.{IsCauseAt, IsCauseWithin, IsModelAt, IsPartOf, IsStrainedAt, Looks, Sees, SeesChain, sum_strain};
+ghost use Rattle.hp_search.specs.Singles.{AreSinglesOf};
 
+use crate::ahead::{Ahead, decide_ahead};
 use crate::literals::{lits_of, push_lits};
+use crate::parts::part_at;
 use crate::searching::SearchErr;
-use crate::singles::suspects;
-use crate::truth::{Verdict, first_false};
-use hp_base::{Choice, Ground, Share, Step, Valuation};
+use crate::truth::{Verdict, first_false, wide_at};
+use hp_base::{Choice, Ground, Valuation};
 use hp_descent::{At, DescentErr, Form, Place, RowStrain, Strain};
 use hp_leaf::LeafProof;
 use hp_num::{List, Wide};
-use hp_path::{Decision, Quick, decide, decide_quickly};
+use hp_path::{Decision, Quick, component_of_last, decide, decide_quickly};
 use std::alloc::{AllocError, Global};
+
+/// A choice that names no literal.
+const NOWHERE: Choice = Choice { line: 0, lit: 0 };
 
 /// What shows at a place: values that make every line true, with their chain where they were to have one; a line that some
 /// values leave false; or a leaf.
@@ -36,107 +40,14 @@ pub enum Seen {
     Leaf(LeafProof),
 }
 
-/// What shows at a place at a quick look, or nothing.
+/// What shows at a place at a quick look.
 #[derive(Drop)]
 enum QuickLook {
     Seen(Seen),
-    Unknown,
-}
-
-/// Values that make the literals of a path true, with lines to look at first; a leaf over them; or nothing.
-#[derive(Drop)]
-enum Ahead {
-    Values {
-        values: Valuation,
-        suspects: List<u32>,
-    },
-    Leaf(LeafProof),
-    Unknown,
-}
-
-/// Whether no step names a literal after the first `count`.
-fn are_steps_within(steps: &[Step], count: usize) -> bool
-    ensures { result ≡ true → All (λ step. step.lit ≤ count) steps.now }
-{
-    for step in steps {
-        if step.lit as usize > count {
-            return false;
-        }
-    }
-    true
-}
-
-/// Whether no share names a literal after the first `count`.
-fn are_shares_within(shares: &[Share], count: usize) -> bool
-    ensures { result ≡ true → All (λ share. share.lit ≤ count) shares.now }
-{
-    for share in shares {
-        if share.lit as usize > count {
-            return false;
-        }
-    }
-    true
-}
-
-/// Whether a leaf names no literal after the first `count`; false for a leaf over pointers.
-fn is_within(proof: &LeafProof, count: usize) -> bool
-    ensures { result ≡ true → IsLeafWithin count proof.now }
-{
-    match proof {
-        LeafProof::Idx(steps) => are_steps_within(steps.as_slice(), count),
-        LeafProof::Num(shares) => are_shares_within(shares.as_slice(), count),
-        LeafProof::Ptr { .. } => false,
-    }
-}
-
-/// Decides the literals of a path alone, with these lines to look at first.
-fn decide_alone(
-    alloc: Global,
-    g: &Ground,
-    path: &[Choice],
-    suspects: List<u32>,
-) -> Result<Ahead, AllocError>
-    requires built { All (λ line. AreBuilt (sorts g.now.names) line.lits) g.now.lines }
-    requires path { length path.now ≤ 50000 }
-    ensures { IfOk result (FindsAhead (sorts g.now.names) (place_lits g.now.lines path.now)) }
-{
-    let lits = lits_of(alloc, g, path)?;
-    match decide_quickly(alloc, &g.names, lits.as_slice())? {
-        Quick::Values(values) => Ok(Ahead::Values { values, suspects }),
-        Quick::Leaf(proof) => Ok(Ahead::Leaf(proof)),
-        Quick::Unknown => Ok(Ahead::Unknown),
-    }
-}
-
-/// Decides the literals of a path, together with the lines of one literal where they agree.
-fn decide_ahead(
-    alloc: Global,
-    g: &Ground,
-    singles: &[Choice],
-    path: &[Choice],
-) -> Result<Ahead, AllocError>
-    requires built { All (λ line. AreBuilt (sorts g.now.names) line.lits) g.now.lines }
-    requires lines { length g.now.lines ≤ 50000 }
-    requires singles { AreSinglesOf g.now.lines singles.now }
-    requires path { length path.now ≤ 50000 }
-    ensures { IfOk result (FindsAhead (sorts g.now.names) (place_lits g.now.lines path.now)) }
-{
-    let mut lits = lits_of(alloc, g, path)?;
-    push_lits(alloc, g, singles, &mut lits)?;
-    match decide_quickly(alloc, &g.names, lits.as_slice())? {
-        Quick::Values(values) => Ok(Ahead::Values {
-            values,
-            suspects: List::new(alloc),
-        }),
-        Quick::Unknown => Ok(Ahead::Unknown),
-        Quick::Leaf(proof) => {
-            if is_within(&proof, path.len()) {
-                return Ok(Ahead::Leaf(proof));
-            }
-            let suspects = suspects(alloc, singles, path.len(), &proof)?;
-            decide_alone(alloc, g, path, suspects)
-        }
-    }
+    /// Literals of the path, by their numbers, over which a number of the descent is too wide.
+    Strained(List<u32>),
+    /// The sum of this literal is too wide at the values that were found, and no line is false.
+    Wide(Choice),
 }
 
 /// The last literal of each line that has one: for a clause, one of the last atom of its head, or of its guard where the
@@ -166,9 +77,10 @@ pub fn guess_model(alloc: Global, g: &Ground) -> Result<Option<Valuation>, Alloc
     ensures { IfOk result (λ guess. IfSome guess (λ v. IsModelAt (sorts g.now.names) g.now.lines [] v)) }
 {
     let last = last_choices(alloc, g)?;
-    match decide_alone(alloc, g, last.as_slice(), List::new(alloc))? {
-        Ahead::Leaf(_) | Ahead::Unknown => Ok(None),
-        Ahead::Values { values, .. } => match first_false(g, &values, &[])? {
+    let lits = lits_of(alloc, g, last.as_slice())?;
+    match decide_quickly(alloc, &g.names, lits.as_slice())? {
+        Quick::Leaf(_) | Quick::Unknown(_) => Ok(None),
+        Quick::Values(values) => match first_false(g, &values, &[])? {
             Verdict::AllTrue => Ok(Some(values)),
             Verdict::False(_) | Verdict::Wide { .. } => Ok(None),
         },
@@ -189,7 +101,7 @@ fn look_quickly(
     ensures { IfOk result (Looks (sorts g.now.names) g.now.lines path.now) }
 {
     match decide_ahead(alloc, g, singles, path)? {
-        Ahead::Unknown => Ok(QuickLook::Unknown),
+        Ahead::Strained(places) => Ok(QuickLook::Strained(places)),
         Ahead::Leaf(proof) => Ok(QuickLook::Seen(Seen::Leaf(proof))),
         Ahead::Values { values, suspects } => {
             match first_false(g, &values, suspects.as_slice())? {
@@ -198,7 +110,7 @@ fn look_quickly(
                     chain: None,
                 })),
                 Verdict::False(line) => Ok(QuickLook::Seen(Seen::Split(line))),
-                Verdict::Wide { .. } => Ok(QuickLook::Unknown),
+                Verdict::Wide { choice, .. } => Ok(QuickLook::Wide(choice)),
             }
         }
     }
@@ -247,25 +159,118 @@ fn look_exactly(alloc: Global, g: &Ground, path: &[Choice]) -> Result<Seen, Sear
                 chain: Some(chain),
             }),
             Verdict::False(line) => Ok(Seen::Split(line)),
-            Verdict::Wide { choice, wide } => Err(strained(
-                alloc,
-                path,
-                RowStrain {
-                    chain,
-                    at: At::Literal {
-                        line: choice.line,
-                        lit: choice.lit,
-                    },
-                    form: Form::Sum,
-                    wide,
-                },
-            )),
+            Verdict::Wide { choice, wide } => {
+                Err(strained(alloc, path, strain_of(chain, choice, wide)))
+            }
         },
     }
 }
 
-/// Decides the literals of the path, and looks for a line that the values found leave false. Where `exact`, the values are
-/// those of a chain of the path.
+/// As `look_exactly`, with a chain only where `exact`.
+fn look_wholly(alloc: Global, g: &Ground, path: &[Choice], exact: bool) -> Result<Seen, SearchErr>
+    requires built { All (λ line. AreBuilt (sorts g.now.names) line.lits) g.now.lines }
+    requires lines { length g.now.lines ≤ 50000 }
+    requires path { length path.now ≤ 50000 }
+    ensures seen { IfOk result (Sees (sorts g.now.names) g.now.lines path.now exact) }
+    ensures strained { IfErr result (IsCauseAt g.now.lines path.now) }
+{
+    if exact {
+        return look_exactly(alloc, g, path);
+    }
+    match look_exactly(alloc, g, path)? {
+        Seen::Model { values, .. } => Ok(Seen::Model {
+            values,
+            chain: None,
+        }),
+        Seen::Split(line) => Ok(Seen::Split(line)),
+        Seen::Leaf(proof) => Ok(Seen::Leaf(proof)),
+    }
+}
+
+/// A strain over the literals of a path, with the sum of the literal of this choice at the values that are found, where
+/// there is one.
+fn strain_over(
+    alloc: Global,
+    g: &Ground,
+    path: &[Choice],
+    choice: Choice,
+) -> Result<Option<RowStrain>, AllocError>
+    requires built { All (λ line. AreBuilt (sorts g.now.names) line.lits) g.now.lines }
+    requires path { length path.now ≤ 50000 }
+    ensures { IfOk result (λ strain. IfSome strain (IsStrainedAt g.now.lines path.now)) }
+{
+    let lits = lits_of(alloc, g, path)?;
+    match decide(alloc, &g.names, lits.as_slice()) {
+        Err(DescentErr::Memory) => Err(AllocError),
+        Err(DescentErr::Strain(row)) => Ok(Some(row)),
+        Ok(Decision::Leaf(_)) => Ok(None),
+        Ok(Decision::Values { values, chain }) => match wide_at(g, &values, choice) {
+            Some(wide) => Ok(Some(strain_of(chain, choice, wide))),
+            None => Ok(None),
+        },
+    }
+}
+
+/// The strain of the sum of the literal of this choice.
+fn strain_of(chain: List<u32>, choice: Choice, wide: Wide) -> RowStrain
+    ensures { result ≡ sum_strain chain choice wide }
+{
+    RowStrain {
+        chain,
+        at: At::Literal {
+            line: choice.line,
+            lit: choice.lit,
+        },
+        form: Form::Sum,
+        wide,
+    }
+}
+
+/// The strain over some choices of the path, with the sum of the literal of this choice at the values that are found,
+/// where there is one; else as `look_wholly`.
+fn look_within(
+    alloc: Global,
+    g: &Ground,
+    path: &[Choice],
+    part: List<Choice>,
+    choice: Choice,
+    exact: bool,
+) -> Result<Seen, SearchErr>
+    requires built { All (λ line. AreBuilt (sorts g.now.names) line.lits) g.now.lines }
+    requires lines { length g.now.lines ≤ 50000 }
+    requires path { length path.now ≤ 50000 }
+    requires part { IsPartOf part path.now }
+    ensures seen { IfOk result (Sees (sorts g.now.names) g.now.lines path.now exact) }
+    ensures strained { IfErr result (IsCauseWithin g.now.lines path.now) }
+{
+    match strain_over(alloc, g, part.as_slice(), choice)? {
+        Some(row) => Err(SearchErr::Strain(Strain {
+            place: Place::Path(part),
+            row,
+        })),
+        None => look_wholly(alloc, g, path, exact),
+    }
+}
+
+/// The choices of the path that share a name, directly or through others, with the literal of this choice.
+fn part_beside(
+    alloc: Global,
+    g: &Ground,
+    path: &[Choice],
+    choice: Choice,
+) -> Result<List<Choice>, AllocError>
+    requires built { All (λ line. AreBuilt (sorts g.now.names) line.lits) g.now.lines }
+    requires path { length path.now ≤ 50000 }
+    ensures { IfOk result (λ part. IsPartOf part path.now) }
+{
+    let mut lits = lits_of(alloc, g, path)?;
+    push_lits(alloc, g, &[choice], &mut lits)?;
+    let places = component_of_last(alloc, &g.names, lits.as_slice())?;
+    part_at(alloc, path, places.as_slice())
+}
+
+/// Decides the literals of the path, and looks for a line that the values found leave false. Where `exact`, the values of
+/// a model are those of a chain of the path. A strain is one over some choices of the path.
 pub fn look(
     alloc: Global,
     g: &Ground,
@@ -278,20 +283,25 @@ pub fn look(
     requires singles { AreSinglesOf g.now.lines singles.now }
     requires path { length path.now ≤ 50000 }
     ensures seen { IfOk result (Sees (sorts g.now.names) g.now.lines path.now exact) }
-    ensures strained { IfErr result (IsCauseAt g.now.lines path.now) }
+    ensures strained { IfErr result (IsCauseWithin g.now.lines path.now) }
 {
-    if exact {
-        return look_exactly(alloc, g, path);
-    }
     match look_quickly(alloc, g, singles, path)? {
-        QuickLook::Seen(seen) => Ok(seen),
-        QuickLook::Unknown => match look_exactly(alloc, g, path)? {
-            Seen::Model { values, .. } => Ok(Seen::Model {
-                values,
-                chain: None,
-            }),
-            Seen::Split(line) => Ok(Seen::Split(line)),
-            Seen::Leaf(proof) => Ok(Seen::Leaf(proof)),
-        },
+        QuickLook::Seen(Seen::Split(line)) => Ok(Seen::Split(line)),
+        QuickLook::Seen(Seen::Leaf(proof)) => Ok(Seen::Leaf(proof)),
+        QuickLook::Seen(Seen::Model { values, chain }) => {
+            if exact {
+                look_wholly(alloc, g, path, exact)
+            } else {
+                Ok(Seen::Model { values, chain })
+            }
+        }
+        QuickLook::Strained(places) => {
+            let part = part_at(alloc, path, places.as_slice())?;
+            look_within(alloc, g, path, part, NOWHERE, exact)
+        }
+        QuickLook::Wide(choice) => {
+            let part = part_beside(alloc, g, path, choice)?;
+            look_within(alloc, g, path, part, choice, exact)
+        }
     }
 }

@@ -132,7 +132,7 @@ pub fn close_singles(
     let lits = lits_of(alloc, g, singles)?;
     match decide_quickly(alloc, &g.names, lits.as_slice())? {
         Quick::Values(_) => Ok(None),
-        Quick::Unknown => Ok(None),
+        Quick::Unknown(_) => Ok(None),
         Quick::Leaf(proof) => tree_of(alloc, g, singles, &proof),
     }
 }

@@ -323,3 +323,152 @@ fn a_sum_that_is_too_wide(rt: HostRuntime) -> Result<(), Fail> {
     assert!(rt; is_strain_at(&found(rt.alloc(), &g, 10, true), 2));
     Ok(())
 }
+
+/// Lines beside the four of which d is 10^54: lines of one literal `x < 0`, lines `x < 0 | x > 5`, and last lines of one
+/// literal that can't be true at once, over fractions or whole numbers.
+#[derive(Clone, Copy)]
+struct Beside {
+    plain: u32,
+    split: u32,
+    end: End,
+}
+
+#[derive(Clone, Copy)]
+enum End {
+    Nothing,
+    Fractions,
+    Wholes,
+}
+
+/// `name < bound` or, with a negative coefficient, `-bound < name`.
+fn less(alloc: Global, name: u32, coef: i128, bound: i128) -> Result<Lit, AllocError> {
+    let mut parts = List::new(alloc);
+    push_part(&mut parts, name, coef)?;
+    Ok(Lit::Num(NumLit {
+        rel: Rel::Lt,
+        parts,
+        bound,
+    }))
+}
+
+fn push_lits(lines: &mut List<Line>, lits: List<Lit>) -> Result<(), AllocError> {
+    lines.push(Line {
+        lits,
+        origin: Origin::Ground { clause: 1 },
+    })
+}
+
+/// `before + name = bound`, with the coefficient of the name before this one.
+fn push_step(
+    alloc: Global,
+    lines: &mut List<Line>,
+    name: u32,
+    coef: i128,
+    bound: i128,
+) -> Result<(), AllocError> {
+    let mut parts = List::new(alloc);
+    push_part(&mut parts, name.saturating_sub(1), coef)?;
+    push_part(&mut parts, name, 1)?;
+    let mut lits = List::new(alloc);
+    lits.push(Lit::Num(NumLit {
+        rel: Rel::Eq,
+        parts,
+        bound,
+    }))?;
+    push_lits(lines, lits)
+}
+
+fn push_end(alloc: Global, lines: &mut List<Line>, end: End) -> Result<(), AllocError> {
+    match end {
+        End::Nothing => Ok(()),
+        End::Wholes => {
+            push_line(alloc, lines, &[Side::Idx(equal(I, 5))])?;
+            push_line(alloc, lines, &[Side::Idx(at_most(I, None, 4))])
+        }
+        End::Fractions => {
+            push_line(alloc, lines, &[num(Rel::Lt, 1, -1, 0)])?;
+            push_line(alloc, lines, &[num(Rel::Lt, -1, 1, 0)])
+        }
+    }
+}
+
+/// The lines beside, and then a = 1, b = Ba, c = Bb and d = Bc, where B is 10^18 - 1.
+fn lines_beside(alloc: Global, beside: Beside) -> Result<Ground, AllocError>
+    requires { beside.plain + beside.split ≤ 3990 }
+{
+    let count = beside.plain + beside.split;
+    let mut g = problem(alloc, 2, 2 + count + 4)?;
+    for at in 0..count {
+        let mut lits = List::new(alloc);
+        lits.push(less(alloc, at + 4, 1, 0)?)?;
+        if at >= beside.plain {
+            lits.push(less(alloc, at + 4, -1, -5)?)?;
+        }
+        push_lits(&mut g.lines, lits)?;
+    }
+    push_step(alloc, &mut g.lines, count + 4, 0, 1)?;
+    for at in 1..4 {
+        push_step(
+            alloc,
+            &mut g.lines,
+            count + 4 + at,
+            1 - 1_000_000_000_000_000_000,
+            0,
+        )?;
+    }
+    push_end(alloc, &mut g.lines, beside.end)?;
+    Ok(g)
+}
+
+/// Whether the answer is a strain over the three lines after the first `before`: those of a, b and c.
+fn is_strain_of_three(found: &Option<Result<Found, SearchErr>>, before: u32) -> bool {
+    match found {
+        Some(Err(SearchErr::Strain(strain))) => match &strain.place {
+            Place::Path(path) => {
+                path.as_slice()
+                    == [
+                        Choice {
+                            line: before + 1,
+                            lit: 1,
+                        },
+                        Choice {
+                            line: before + 2,
+                            lit: 1,
+                        },
+                        Choice {
+                            line: before + 3,
+                            lit: 1,
+                        },
+                    ]
+                    .as_slice()
+            }
+        },
+        _ => false,
+    }
+}
+
+#[test]
+fn one_component_strains_beside_others(rt: HostRuntime) -> Result<(), Fail> {
+    let cases = [
+        (0, 0, End::Nothing),
+        (4, 0, End::Nothing),
+        (8, 8, End::Nothing),
+        (16, 0, End::Nothing),
+        (30, 30, End::Nothing),
+        (60, 0, End::Nothing),
+        (0, 60, End::Nothing),
+        (300, 0, End::Nothing),
+        (60, 0, End::Fractions),
+        (0, 60, End::Wholes),
+    ];
+    for (plain, split, end) in cases {
+        let beside = Beside { plain, split, end };
+        let g = lines_beside(rt.alloc(), beside)?;
+        let found = found(rt.alloc(), &g, 1_000, false);
+        match end {
+            End::Nothing => assert!(rt; is_strain_of_three(&found, plain + split)),
+            End::Fractions | End::Wholes => assert_eq!(rt; answer_of(found), Answer::Closed(3)),
+        }
+    }
+    Ok(())
+}

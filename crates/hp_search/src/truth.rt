@@ -1,10 +1,10 @@
 //! Whether lines are true at values, and the choice of a line that is false.
-ghost use Rattle.std.specs.Prelude.{◌≡◌, ◌+◌, ◌≤◌, IfOk, IsSome, Ok, length, true, false};
+ghost use Rattle.std.specs.Prelude.{◌≡◌, ◌+◌, ◌≤◌, IfOk, IfSome, IsSome, Ok, length, true, false};
 ghost use Rattle.std.specs.List.{All};
 ghost use Rattle.hp_math.specs.Rational.{whole};
 ghost use Rattle.hp_base.specs.Truth.{IdxIsTrue, LineIsTrue, optional_value};
 ghost use Rattle.hp_diff.specs.Rows.{IsSmallWhole};
-ghost use Rattle.hp_search.specs.Lines.{AreReadable, HasSmallSides, IsFalseLine, IsReadable, IsSmallIndex, Judges, JudgesLine, JudgesLit, Keeps};
+ghost use Rattle.hp_search.specs.Lines.{AreReadable, HasSmallSides, IsFalseLine, IsReadable, IsSmallIndex, IsWideChoice, Judges, JudgesLine, JudgesLit, Keeps};
 
 use hp_base::{Choice, Ground, IdxLit, Line, Lit, Name, Valuation};
 use hp_descent::holds;
@@ -156,6 +156,26 @@ fn is_false(g: &Ground, v: &Valuation, number: u32) -> Result<bool, AllocError>
         LineTruth::False => Ok(true),
         LineTruth::True => Ok(false),
         LineTruth::Wide { .. } => Ok(false),
+    }
+}
+
+/// The sum of the literal of this choice, where it is too wide.
+pub fn wide_at(g: &Ground, v: &Valuation, choice: Choice) -> Option<Wide>
+    requires { All (AreReadable v.now.values) g.now.lines }
+    ensures { IfSome result (IsWideChoice g.now.lines v.now.values choice) }
+{
+    let line = choice.line as usize;
+    let lit = choice.lit as usize;
+    if line == 0 || g.lines.len() < line || lit == 0 {
+        return None;
+    }
+    let lits = &g.lines.get(line - 1).lits;
+    if lits.len() < lit {
+        return None;
+    }
+    match lit_truth(v, lits.get(lit - 1)) {
+        LitTruth::Wide(wide) => Some(wide),
+        LitTruth::True | LitTruth::False => None,
     }
 }
 

@@ -47,8 +47,10 @@ enum Found {
     Shares(List<Share>),
 }
 
-/// The answer of the simplex, or of the relaxation where that gives up, where the checks let it through.
-fn attempt(alloc: Global, lits: &[NumLit]) -> Result<Attempt, AllocError>
+/// As `decide`, but for the descent: `Unknown` where simplex and relaxation give up, or where the checks don't let their
+/// answer through. The time is that of the pivots and reflections, whatever the literals. `Err` says that memory was
+/// wanting.
+pub fn attempt(alloc: Global, lits: &[NumLit]) -> Result<Attempt, AllocError>
     ensures { IfOk result (λ attempt. IsRight lits.now attempt) }
 {
     let names = columns_of(alloc, lits)?;

@@ -17,7 +17,8 @@ mod solution;
 mod tableau;
 mod values;
 
-pub use deciding::decide;
+pub use checks::Attempt;
+pub use deciding::{attempt, decide};
 
 #[cfg(test)]
 mod tests;

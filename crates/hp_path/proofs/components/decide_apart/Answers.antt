@@ -1,14 +1,15 @@
-use Rattle.std.proofs.Common.{◌≡◌, ◌≤◌, ◌<◌, ◌+◌, ◌++◌, sym, ◌∙◌, ap, subst, arith, length, get_or, Ok, true, false, set, replicate}
+use Rattle.std.proofs.Common.{◌≡◌, ◌≤◌, ◌<◌, ◌+◌, ◌++◌, ◌∷◌, [], List, ℕ, sym, ◌∙◌, ap, subst, arith, length, length-append, get_or, true, false, set, replicate}
+use Rattle.std.proofs.lemmas.List.{nil_from_length}
 use Rattle.hp_base.specs.Names.{sorts}
 use Rattle.hp_base.specs.declared.literal.NumLit.{NumLit}
 use Rattle.hp_base.specs.declared.valuation.NameValue.{NameValue}
 use Rattle.std.specs.List.{All, filter}
-use Rattle.hp_path.specs.Components.{AreSolved, first_label, has_label, is_done, label_at}
+use Rattle.hp_path.specs.Components.{AreGivenUp, AreSettled, AreSolved, IsGivenUp, first_label, has_label, is_done, label_at, places_with}
 use Rattle.hp_path.specs.Placed.{AreSolving}
-use Rattle.hp_path.specs.Sides.{AreOfLabel, DecidesNums}
-use Rattle.hp_path.proofs.Gathering.{done_read, label_small, solved_all, solved_more, solved_none, solved_past}
+use Rattle.hp_path.specs.Sides.{AreOfLabel, DecidesPart}
+use Rattle.hp_path.proofs.Gathering.{done_read, label_small, settled_found, settled_none, settled_past, settled_unknown, solved_all, solved_more, solved_none, solved_past}
 use Rattle.hp_path.proofs.components.decide_apart.Goals as goal
-use Rattle.hp_path.proofs.components.decide_apart.Goals.{then-not-get+in_ok-more+in-Point+in_ok-push_values-in-Point, else-not-get}
+use Rattle.hp_path.proofs.components.decide_apart.Goals.{then-not-get+in_ok-more+in-Point+in_ok-push_values-in-Point, then-not-get+in_ok-more+in-Unknown+in_ok-push-in-Unknown, else-not-get}
 
 pub get-requires : goal.get-requires
 get-requires c =
@@ -24,14 +25,17 @@ loop-lit-init c =
     let ss = sorts c.args.names.now in
     let labels = c.args.labels.now in
     let nums = c.args.parts.now.nums in
+    let places = c.args.parts.now.num_places in
     let e = c.in_ok-done.ensures ∙ ap (λ n. replicate (n + 1) false) c.len.ensures in
-    subst (AreSolved ss labels nums 0 c.in_ok-done.done) (sym c.new-values.ensures) (solved_none ss labels nums c.in_ok-done.done e)
+    settled_none ss c.args.pace labels nums places c.in_ok-done.done c.new-values.result c.new-unknown.result e c.new-values.ensures c.new-unknown.ensures
 
 pub loop-lit-preserved : goal.loop-lit-preserved
 loop-lit-preserved c =
     let ss = sorts c.args.names.now in
+    let p = c.args.pace in
     let labels = c.args.labels.now in
     let nums = c.args.parts.now.nums in
+    let places = c.args.parts.now.num_places in
     let i = c.loop-lit.lit-index in
     let label = c.first_label-label.result in
     let lit = c.lit-item.result in
@@ -43,22 +47,24 @@ loop-lit-preserved c =
     let read : is_done c.loop-lit.done label ≡ c.get.result.now = done_read c.loop-lit.done label c.get.result.now c.get.ensures in
     elim c.if-not-get.branch [
       | then-not-get+in_ok-more+in-Point+in_ok-push_values-in-Point w ↦
-          let decided : AreSolving ss (filter (has_label labels label) nums) w.in-Point.more = subst (λ a. DecidesNums ss c.args.lits.now (filter (has_label labels label) nums) (Ok a)) w.in-Point.is w.in_ok-more.ensures.decided in
-          let names : All (λ (nv : NameValue). label_at labels nv.name.0 ≡ label) w.in-Point.more = subst (λ a. AreOfLabel labels label (Ok a)) w.in-Point.is w.in_ok-more.ensures.names in
+          let decided : AreSolving ss (filter (has_label labels label) nums) w.in-Point.more = subst (DecidesPart ss p c.args.lits.now c.args.parts.now labels label) w.in-Point.is w.in_ok-more.ensures.decided in
+          let names : All (λ (nv : NameValue). label_at labels nv.name.0 ≡ label) w.in-Point.more = subst (AreOfLabel labels label) w.in-Point.is w.in_ok-more.ensures.names in
           let pushed : c.if-not-get.values ≡ c.loop-lit.values ++ w.in-Point.more = w.values-is ∙ w.in_ok-push_values-in-Point.ensures ∙ ap (λ m. c.loop-lit.values ++ m) w.as_slice-in-Point.ensures in
-          let done : c.if-not-get.done ≡ set c.loop-lit.done label true = w.done-is ∙ w.set.ensures in
-          subst (AreSolved ss labels nums (i + 1) c.if-not-get.done) (sym pushed)
-          (subst (λ d. AreSolved ss labels nums (i + 1) d (c.loop-lit.values ++ w.in-Point.more)) (sym done)
-          (solved_more ss labels nums i lit c.loop-lit.done c.loop-lit.values w.in-Point.more label l c.loop-lit.invariant e below (read ∙ w.if-not-get.true) decided names))
+          settled_found ss p labels nums places i lit c.loop-lit.done c.if-not-get.done c.loop-lit.values c.if-not-get.values w.in-Point.more c.loop-lit.unknown c.if-not-get.unknown label l
+          c.loop-lit.invariant e below (read ∙ w.if-not-get.true) decided names (w.done-is ∙ w.set.ensures) pushed w.unknown-is
+      | then-not-get+in_ok-more+in-Unknown+in_ok-push-in-Unknown w ↦
+          let here = subst (DecidesPart ss p c.args.lits.now c.args.parts.now labels label) w.in-Unknown.is w.in_ok-more.ensures.decided in
+          settled_unknown ss p labels nums places i lit c.loop-lit.done c.if-not-get.done c.loop-lit.values c.if-not-get.values c.loop-lit.unknown c.if-not-get.unknown w.in-Unknown.places label
+          c.loop-lit.invariant (w.done-is ∙ w.set.ensures) (w.unknown-is ∙ w.in_ok-push-in-Unknown.ensures.ok)
+          (record { labels = labels; label = label; are = c.requires.labels; is = here.0; given_up = here.1 })
       | else-not-get w ↦
-          subst (AreSolved ss labels nums (i + 1) c.if-not-get.done) (sym w.values-is)
-          (subst (λ d. AreSolved ss labels nums (i + 1) d c.loop-lit.values) (sym w.done-is)
-          (solved_past ss labels nums i lit c.loop-lit.done c.loop-lit.values l c.loop-lit.invariant (ap (is_done c.loop-lit.done) (sym e) ∙ read ∙ w.if-not-get.false)))
+          settled_past ss p labels nums places i lit c.loop-lit.done c.if-not-get.done c.loop-lit.values c.if-not-get.values c.loop-lit.unknown c.if-not-get.unknown l c.loop-lit.invariant
+          (ap (is_done c.loop-lit.done) (sym e) ∙ read ∙ w.if-not-get.false) w.done-is w.values-is w.unknown-is
     ]
 
-pub returns : goal.returns
-returns c =
+pub returns-then-len-eq0 : goal.returns-then-len-eq0
+returns-then-len-eq0 c =
     let nums = c.args.parts.now.nums in
     let n = ap length c.as_slice-lit-items.ensures in
     let end : length nums ≤ c.loop-lit.lit-index = omega (arith, n, c.loop-lit-test.false) in
-    solved_all (sorts c.args.names.now) c.args.labels.now nums c.loop-lit.lit-index c.loop-lit.done c.loop-lit.values end c.loop-lit.invariant
+    solved_all (sorts c.args.names.now) c.args.labels.now nums c.loop-lit.lit-index c.loop-lit.done c.loop-lit.values end (c.loop-lit.invariant.solved (nil_from_length c.loop-lit.unknown (omega arith)))

@@ -4,12 +4,13 @@ use Rattle.std.proofs.lemmas.List.Elements.{All-filter}
 use Rattle.hp_base.specs.Names.{sorts}
 use Rattle.hp_base.specs.declared.literal.Lit.TheVariants.{Num}
 use Rattle.hp_base.specs.Leaf.{IsValidNum}
-use Rattle.hp_descent.specs.Answers.{Decides, IsSolution}
+use Rattle.hp_descent.specs.Answers.{IsSolution}
 use Rattle.hp_descent.specs.Columns.{AreFit}
 use Rattle.hp_leaf.specs.Renumbered.{renumbered_shares}
 use Rattle.hp_leaf.proofs.Renumbered.{num_placed}
 use Rattle.hp_path.specs.Built.{IsNumOver}
 use Rattle.hp_path.specs.Components.{has_label, places_with}
+use Rattle.hp_path.specs.Sides.{Tells}
 use Rattle.hp_path.proofs.Gathering.{fewer_with, names_with, same_count, stands_with}
 use Rattle.hp_path.proofs.Mixed.{fit_over, solving}
 use Rattle.hp_path.proofs.components.decide_component.Goals as goal
@@ -17,8 +18,8 @@ use Rattle.hp_path.proofs.components.decide_component.Goals as goal
 pub component_of-requires-clause-places : goal.component_of-requires-clause-places
 component_of-requires-clause-places c = same_count c.args.lits.now c.args.parts.now.nums c.args.parts.now.num_places c.requires.stand
 
-pub decide-requires : goal.decide-requires
-decide-requires c =
+pub answer_at-requires : goal.answer_at-requires
+answer_at-requires c =
     let ss = sorts c.args.names.now in
     let t = has_label c.args.labels.now c.args.label in
     let nums = c.args.parts.now.nums in
@@ -30,22 +31,22 @@ returns-in-Point-clause-decided c =
     let ss = sorts c.args.names.now in
     let t = has_label c.args.labels.now c.args.label in
     let nums = c.args.parts.now.nums in
-    let h : IsSolution c.as_slice.result.now c.in-Point.values = subst (λ a. Decides c.as_slice.result.now (Ok a)) c.in-Point.is c.in_ok-values.ensures in
+    let h : IsSolution c.as_slice.result.now c.in-Point.values = subst (Tells c.args.pace c.as_slice.result.now) c.in-Point.is c.in_ok-values.ensures in
     solving ss (filter t nums) c.in-Point.values (All-filter t (IsNumOver ss) nums c.requires.over) (subst (λ ls. IsSolution ls c.in-Point.values) (c.as_slice.ensures ∙ c.in_ok-component.ensures.nums) h)
 
 pub returns-in-Point-clause-names : goal.returns-in-Point-clause-names
 returns-in-Point-clause-names c =
-    let h : IsSolution c.as_slice.result.now c.in-Point.values = subst (λ a. Decides c.as_slice.result.now (Ok a)) c.in-Point.is c.in_ok-values.ensures in
+    let h : IsSolution c.as_slice.result.now c.in-Point.values = subst (Tells c.args.pace c.as_slice.result.now) c.in-Point.is c.in_ok-values.ensures in
     names_with c.args.labels.now c.args.label c.args.parts.now.nums c.in-Point.values c.requires.labels (subst (λ ls. IsSolution ls c.in-Point.values) (c.as_slice.ensures ∙ c.in_ok-component.ensures.nums) h)
 
-pub returns-clause-decided : goal.returns-clause-decided
-returns-clause-decided c =
+pub returns-in_ok-shares-in-Farkas-clause-decided : goal.returns-in_ok-shares-in-Farkas-clause-decided
+returns-in_ok-shares-in-Farkas-clause-decided c =
     let lits = c.args.lits.now in
     let labels = c.args.labels.now in
     let nums = c.args.parts.now.nums in
     let places = c.args.parts.now.num_places in
     let t = has_label labels c.args.label in
-    let h : IsValidNum (map Num c.as_slice.result.now) c.in-Farkas.shares = subst (λ a. Decides c.as_slice.result.now (Ok a)) c.in-Farkas.is c.in_ok-values.ensures in
+    let h : IsValidNum (map Num c.as_slice.result.now) c.in-Farkas.shares = subst (Tells c.args.pace c.as_slice.result.now) c.in-Farkas.is c.in_ok-values.ensures in
     let v : IsValidNum (map Num (filter t nums)) c.in-Farkas.shares = subst (λ ls. IsValidNum (map Num ls) c.in-Farkas.shares) (c.as_slice.ensures ∙ c.in_ok-component.ensures.nums) h in
     subst (IsValidNum lits)
     (sym (c.in_ok-shares-in-Farkas.ensures ∙ (λ i. renumbered_shares ((c.as_slice-in-Farkas.ensures ∙ c.in_ok-component.ensures.places) i) (c.as_slice-in-Farkas-2.ensures i))))

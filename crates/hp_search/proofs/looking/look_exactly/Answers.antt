@@ -4,6 +4,7 @@ use Rattle.hp_base.specs.Names.{sorts}
 use Rattle.hp_path.specs.Built.{IsBuilt}
 use Rattle.hp_path.specs.Decided.{AreOfChain, Decides}
 use Rattle.hp_search.specs.Lines.{Judges}
+use Rattle.hp_search.specs.Search.{IsStrainedAt}
 use Rattle.hp_search.proofs.Reading.{lines_readable, place_built}
 use Rattle.hp_search.proofs.Showing.{caused, wide_strained}
 use Rattle.hp_search.proofs.looking.look_exactly.Goals as goal
@@ -28,4 +29,5 @@ returns-clause-strained c =
     let decided = subst (λ d. Decides ss c.as_slice.result.now (Ok d)) c.in-Ok-Values.field-0-is c.in-Ok-Values.ensures in
     let made = subst (λ q. AreOfChain ss q chain v) (c.as_slice.ensures ∙ c.in_ok-lits.ensures) decided.1 in
     let sum = subst (Judges lines v) c.in-Wide.is c.in_ok-first_false-in-Ok-Values.ensures in
-    caused lines c.args.path.now _ c.strained-in-Wide.result c.strained-in-Wide.ensures (wide_strained ss lines c.args.path.now v chain c.in-Wide.choice c.in-Wide.wide made c.requires.built sum)
+    caused lines c.args.path.now _ c.strained-in-Wide.result c.strained-in-Wide.ensures
+    (subst (IsStrainedAt lines c.args.path.now) (sym c.strain_of.ensures) (wide_strained ss lines c.args.path.now v chain c.in-Wide.choice c.in-Wide.wide made c.requires.built sum))

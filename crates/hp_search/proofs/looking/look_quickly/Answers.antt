@@ -8,5 +8,5 @@ use Rattle.hp_search.proofs.looking.look_quickly.Goals as goal
 pub first_false-requires-clause-readable : goal.first_false-requires-clause-readable
 first_false-requires-clause-readable c =
     let ss = sorts c.args.g.now.names in
-    let found = subst (FindsAhead ss (place_lits c.args.g.now.lines c.args.path.now)) c.in-Values.is c.in_ok-decide_ahead.ensures in
+    let found = subst (FindsAhead ss (place_lits c.args.g.now.lines c.args.path.now)) c.in-Values.is c.in_ok-places.ensures in
     lines_readable ss c.in-Values.values.values found.small c.args.g.now.lines c.requires.built

@@ -1,7 +1,7 @@
 use Rattle.std.proofs.Common.{◌≤◌, ◌∙◌, ap, length, subst, sym, Err, IfErr}
 use Rattle.std.proofs.lemmas.Result.{err_from_is_err_and}
 use Rattle.hp_base.specs.Names.{sorts}
-use Rattle.hp_search.specs.Search.{IsCause, IsCauseAt, Sees}
+use Rattle.hp_search.specs.Search.{IsCause, IsCauseWithin, Sees}
 use Rattle.hp_search.proofs.Opening as opening
 use Rattle.hp_search.proofs.searching.open_place.Goals as goal
 
@@ -38,7 +38,7 @@ returns-in_err-values-clause-cause c =
     let ss = sorts c.args.g.now.names in
     let lines = c.args.g.now.lines in
     let e = c.in_err-values.field-0.0 in
-    let here = subst (λ p. IsCauseAt lines p e) c.as_slice.ensures c.in_err-values.ensures.strained in
+    let here = subst (λ p. IsCauseWithin lines p e) c.as_slice.ensures c.in_err-values.ensures.strained in
     let cause = opening.cause_here _ _ c.args.tree.now c.args.tree.now _ c.args.exact c.requires.at e here in
     let handed = err_from_is_err_and c.from_residual.result c.from_residual.ensures.1 in
     subst (λ r. IfErr r (IsCause ss lines)) (sym (handed.1 ∙ ap (λ w. Err w) handed.2)) cause

@@ -7,7 +7,7 @@ use Rattle.hp_path.specs.Built.{IsBuilt}
 use Rattle.hp_path.specs.Decided.{AreValuesFor, DecidesQuickly}
 use Rattle.hp_search.proofs.Closing.{first_leaf, first_values}
 use Rattle.hp_search.proofs.Reading.{place_count, places_built}
-use Rattle.hp_search.proofs.looking.decide_ahead.Goals as goal
+use Rattle.hp_search.proofs.ahead.decide_ahead.Goals as goal
 
 pub decide_quickly-requires-clause-built : goal.decide_quickly-requires-clause-built
 decide_quickly-requires-clause-built c =

@@ -1,7 +1,7 @@
 use Rattle.std.proofs.Common.{◌≤◌, take}
 use Rattle.std.specs.List.{All}
 use Rattle.hp_base.specs.declared.proof.Step.{Step}
-use Rattle.hp_search.proofs.looking.are_steps_within.Given as goal
+use Rattle.hp_search.proofs.ahead.are_steps_within.Given as goal
 
 abbrev pub invariant-loop-step : goal.invariant-loop-step
 invariant-loop-step l = All (λ (step : Step). step.lit ≤ l.count) (take l.step-index l.steps)

@@ -1,0 +1,44 @@
+//! The component of one literal among others.
+ghost use Rattle.std.specs.Prelude.{◌≡◌, ◌≤◌, IfOk, length};
+ghost use Rattle.std.specs.List.{All};
+ghost use Rattle.hp_base.specs.Names.{sorts};
+ghost use Rattle.hp_path.specs.Built.{IsBuilt, num_lits};
+ghost use Rattle.hp_path.specs.Components.{AreLabels, IsComponentOfLast};
+ghost use Rattle.hp_path.specs.Parted.{num_places};
+
+use crate::components::component_of;
+use crate::labels::{first_label, labels_of};
+use crate::parting::parts_of;
+use hp_base::{Lit, Names, NumLit};
+use hp_num::List;
+use std::alloc::{AllocError, Global};
+
+/// The label of the last literal, and 0 where there is none.
+fn label_of_last(labels: &List<u32>, nums: &List<NumLit>) -> u32
+    requires { AreLabels labels.now nums.now }
+    ensures { result ≡ Rattle.hp_path.specs.Components.label_of_last labels.now nums.now }
+{
+    let count = nums.len();
+    if count == 0 {
+        return 0;
+    }
+    first_label(labels, nums.get(count - 1).parts.as_slice())
+}
+
+/// The literals over fractions that share a name, directly or through others, with the last of them, by their numbers,
+/// which count from 1 and rise. `Err` says that memory was wanting. It asks for literals as `decide` does.
+pub fn component_of_last(
+    alloc: Global,
+    names: &Names,
+    lits: &[Lit],
+) -> Result<List<u32>, AllocError>
+    requires built { All (IsBuilt (sorts names.now)) lits.now }
+    requires few { length lits.now ≤ 100000 }
+    ensures { IfOk result (IsComponentOfLast (num_lits lits.now) (num_places 1 lits.now)) }
+{
+    let parts = parts_of(alloc, lits)?;
+    let labels = labels_of(alloc, names, parts.nums.as_slice())?;
+    let label = label_of_last(&labels, &parts.nums);
+    let component = component_of(alloc, &labels, label, &parts)?;
+    Ok(component.places)
+}
