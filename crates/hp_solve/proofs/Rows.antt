@@ -21,13 +21,8 @@ use Rattle.hp_descent.specs.Columns.{part_names}
 use Rattle.hp_path.specs.Built.{IsBuilt, IsIdxSide as IsBuiltSide}
 use Rattle.hp_search.specs.Lines.{AreBuilt}
 use Rattle.hp_cert.specs.Named.{DefIsNamed, GroundIsNamed, IsName, IsNameIfAny, LineIsNamed, LitIsNamed}
-<<<<<<< HEAD
 use Rattle.hp_linear.specs.Steps.{Refusable, behind}
-use Rattle.hp_linear.specs.Normal.{AreNormalParts, IsNormalNum}
-=======
-use Rattle.hp_linear.specs.Steps.{Refusable, ◌>>=◌, behind}
 use Rattle.hp_linear.specs.Normal.{AreNormalParts}
->>>>>>> 132092f939fec6175c2ba9169f48285cc36dfe58
 use Rattle.hp_linear.proofs.Refusals.{ok_same}
 use Rattle.hp_ground.specs.declared.consts.Consts.{Consts}
 use Rattle.hp_ground.specs.Ground.{consts_of}

@@ -1,12 +1,7 @@
 -- A problem with ground lines has no number that is too wide for them.
-<<<<<<< HEAD
 use Rattle.std.proofs.Common.{◌≡◌, ℕ, ◌+◌, ◌≤◌, List, [], ◌∷◌, length, Option, Some, None, refl}
 use Rattle.std.specs.Prelude.{Ok, Err, Bool, true, false, if◌then◌else◌}
 use Rattle.hp_num.specs.Wide.{◌>>=◌}
-=======
-use Rattle.std.proofs.Common.{◌≡◌, ℕ, ◌+◌, ◌≤◌, List, [], ◌∷◌, length, Some, None, refl}
-use Rattle.std.specs.Prelude.{Ok, Err, if◌then◌else◌}
->>>>>>> 132092f939fec6175c2ba9169f48285cc36dfe58
 use Rattle.hp_ast.specs.declared.problem.Clause.{Clause}
 use Rattle.hp_ast.specs.declared.problem.Problem.{Problem}
 use Rattle.hp_base.specs.declared.literal.Lit.{Lit}
