@@ -5,3 +5,4 @@ pub mod Names
 pub mod Sorts
 pub mod Words
 pub mod Growing
+pub mod Limited

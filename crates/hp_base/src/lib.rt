@@ -16,7 +16,7 @@ pub use line::{Arg, Body, Def, Lin, LinPart, Line, Origin};
 pub use literal::{IdxLit, Lit, Name, NumLit, Part, PtrLit, Rel};
 pub use names::{Constant, Ground, Names, Signature};
 pub use proof::{Choice, Share, Step};
-pub use refusal::Refusal;
+pub use refusal::{GroundErr, Refusal};
 pub use valuation::{NameValue, Valuation};
 
 /// No values make all literals true over which a leaf of multipliers is valid.

@@ -1,6 +1,6 @@
 -- The ground problem from its constants, its forms and its lines.
 use Rattle.std.proofs.Common.{◌≡◌, ◌≤◌, ◌&&◌, Bool, true, false, List, [], ◌∷◌, length, refl, sym, ap, subst, arith}
-use Rattle.std.specs.Prelude.{nat_eq}
+use Rattle.std.specs.Prelude.{nat_eq, Result, Ok, Err, Option, Some, None}
 use Rattle.std.specs.List.{All, list_all}
 use Rattle.std.proofs.lemmas.Bool.{and_parts, eqb-true, eq-eqb}
 use Rattle.std.proofs.lemmas.List.Elements.{All-weaker}
@@ -11,11 +11,13 @@ use Rattle.hp_ast.specs.declared.problem.Sort.{Sort}
 use Rattle.hp_ast.specs.declared.problem.Var.{Var}
 use Rattle.hp_ground.specs.declared.consts.Consts.{Consts}
 use Rattle.hp_ground.specs.declared.consts.ConstsRead.TheVariants as consts
-use Rattle.hp_ground.specs.declared.grounding.GroundRead.{GroundRead}
-use Rattle.hp_ground.specs.declared.grounding.GroundRead.TheVariants.{Read, Other, ManyNames, Wide, Memory}
 use Rattle.hp_ground.specs.Ground.{IsGroundClause, IsGroundProblem, is_ground_atom}
-use Rattle.hp_ground.specs.Lines.{HasRows}
+use Rattle.hp_ground.specs.Lines.{HasRows, IsGroundOf}
 use Rattle.hp_ground.specs.Answers.{ConstsFound, GroundFound, LinedAs, clause_is_ground}
+use Rattle.hp_base.specs.declared.names.Ground.{Ground}
+use Rattle.hp_base.specs.declared.refusal.GroundErr.{GroundErr}
+use Rattle.hp_base.specs.declared.refusal.GroundErr.TheVariants as ground
+use Rattle.hp_ground.proofs.Limited.{none_passed, wide_passed}
 use Rattle.hp_ground.proofs.Models.{sorts_of}
 use Rattle.hp_model.specs.WellFormed.{constants}
 
@@ -64,19 +66,19 @@ module _ (p : Problem) (c : Consts) (found : ConstsFound p.decls (consts.Read c)
   pub is_problem : All (IsGroundClause c) p.clauses → IsGroundProblem p
   is_problem all = record { decls = found.2; distinct = found.1; clauses = subst (λ (x : Consts). All (IsGroundClause x) p.clauses) found.0 all }
 
-  pub ground_found : (result : GroundRead) → All (IsGroundClause c) p.clauses → length p.decls ≤ 4000 → LinedAs p.decls p.clauses result → GroundFound p result
-  ground_found (Read g) all few h = (
-    record {
-      problem = is_problem all;
-      constants = h.0.constants;
-      definitions = h.0.definitions;
-      lines = h.1.0;
-      rows = subst (λ (ss : List Sort). All (HasRows ss) g.lines)
-          (sym (sorts_of g.names.constants g.names.signatures g.names.definitions (constants p.decls) h.0.constants h.0.definitions)) h.1.1;
-    },
-    few,
-  )
-  ground_found Other all few h = absurd h
-  ground_found ManyNames all few h = absurd h
-  ground_found (Wide item) all few h = record { problem = is_problem all; few = few; clause = h.clause; first = h.first; same = h.same }
-  ground_found Memory all few h = tt
+  abbrev Answer : Type 0
+  Answer = Result (Option Ground) GroundErr
+
+  pub ground_found : (result : Answer) → All (IsGroundClause c) p.clauses → length p.decls ≤ 4000 → LinedAs p.decls p.clauses result → GroundFound p result
+  ground_found (Ok (Some g)) all few h =
+      let is : IsGroundOf p g = record {
+        problem = is_problem all;
+        constants = h.0.constants;
+        definitions = h.0.definitions;
+        lines = h.1;
+        rows = subst (λ (ss : List Sort). All (HasRows ss) g.lines)
+            (sym (sorts_of g.names.constants g.names.signatures g.names.definitions (constants p.decls) h.0.constants h.0.definitions)) h.2;
+      } in (is, none_passed p g is few)
+  ground_found (Ok None) all few h = absurd h
+  ground_found (Err (ground.Limit l)) all few h = (is_problem all, wide_passed p l few h)
+  ground_found (Err ground.Memory) all few h = tt

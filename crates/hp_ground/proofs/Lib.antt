@@ -7,4 +7,5 @@ pub mod IdxRows
 pub mod Steps
 pub mod Clauses
 pub mod Models
+pub mod Limited
 pub mod Found

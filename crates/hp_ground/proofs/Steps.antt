@@ -23,11 +23,9 @@ use Rattle.hp_linear.specs.Normal.{IsNormal}
 use Rattle.hp_linear.specs.Answers as linear
 use Rattle.hp_linear.proofs.Refusals.{behind_behind, behind_nothing}
 use Rattle.hp_ground.specs.declared.consts.Consts.{Consts}
-use Rattle.hp_ground.specs.declared.lines.LineRead.TheVariants as line
-use Rattle.hp_ground.specs.declared.lines.LinesRead.TheVariants as lines
 use Rattle.hp_ground.specs.Ground.{IsGroundAtom, IsIdxAtom, IsNumAtom, is_idx_atom, is_num_atom}
 use Rattle.hp_ground.specs.Lines.{HasRows, IsRow, atoms_literals, clause_literals, from_clause, is_wide, lines_from, literals_of, wide_from}
-use Rattle.hp_ground.specs.Answers.{LineFound, LinesFound, LitsFound, Pushed}
+use Rattle.hp_ground.specs.Answers.{LineFound, LitsFound, Pushed}
 use Rattle.hp_ground.proofs.Fine.{Fine}
 use Rattle.hp_ground.proofs.IdxRows.{idx_rows}
 use Rattle.hp_ground.proofs.NumNames.{IsLitNamed, num_fine}
@@ -154,7 +152,7 @@ module _ (consts : Consts) (c : Clause) where
   head_refused first new done refused.Wide g h = both (Ok g.0) (Err refused.Wide) g.1 h.0
   head_refused first new done refused.Memory g h = tt
 
-  pub line_found : (number : ℕ) (lits : List Lit) → LitsFound consts c (Ok lits) → LineFound consts number c (line.Read (from_clause number lits))
+  pub line_found : (number : ℕ) (lits : List Lit) → LitsFound consts c (Ok lits) → LineFound consts number c (Ok (from_clause number lits))
   line_found number lits h = (ap (λ (r : Refusable (List Lit)). r >>= λ ls. Ok (from_clause number ls)) h.0, h.1)
 
 -- ---- the lines of the first clauses
@@ -180,7 +178,7 @@ module _ (consts : Consts) (clauses : List Clause) where
         so_far.wide ∙ ap (λ (cs : List Clause). wide_from consts (i + 1) cs) (drop_more clauses i d h)
         ∙ ap (λ (x : Bool). cond x (Some (i + 1)) (wide_from consts (i + 1 + 1) later)) e
 
-    pub line_more : (l : Line) → LineFound consts (i + 1) (get_or clauses i d) (line.Read l) → LinesSoFar consts clauses (i + 1) (made ++ l ∷ [])
+    pub line_more : (l : Line) → LineFound consts (i + 1) (get_or clauses i d) (Ok l) → LinesSoFar consts clauses (i + 1) (made ++ l ∷ [])
     line_more l is = record {
       rest = so_far.rest ∙ ap (λ (cs : List Clause). behind made (lines_from consts (i + 1) cs)) (drop_more clauses i d h)
           ∙ ap (λ (r : Refusable Line). behind made (r >>= λ x. behind (x ∷ []) (lines_from consts (i + 1 + 1) later))) is.0
@@ -192,7 +190,7 @@ module _ (consts : Consts) (clauses : List Clause) where
     pub line_wide : clause_literals consts (get_or clauses i d) ≡ Err refused.Wide → wide_from consts 1 clauses ≡ Some (i + 1)
     line_wide e = next_wide true (ap (λ (r : Refusable (List Lit)). is_wide r) e)
 
-  pub all_lines : (i : ℕ) (made : List Line) → length clauses ≤ i → LinesSoFar consts clauses i made → LinesFound consts clauses (lines.Read made)
+  pub all_lines : (i : ℕ) (made : List Line) → length clauses ≤ i → LinesSoFar consts clauses i made → (lines_from consts 1 clauses ≡ Ok made) × All (HasRows consts.sorts) made
   all_lines i made h so_far = (
     so_far.rest ∙ ap (λ (cs : List Clause). behind made (lines_from consts (i + 1) cs)) (drop_end clauses i h) ∙ ap (λ (xs : List Line). Ok xs) (append-nil made),
     so_far.rows,

@@ -1,7 +1,8 @@
 -- The ground lines of a problem: a line for each clause, with the literals of its atoms.
-use Rattle.std.specs.Prelude.{◌≡◌, ℕ, ◌+◌, List, [], ◌∷◌, map, length, Bool, true, false, if◌then◌else◌, Option, Some, None, Ok, Err, slice_get}
+use Rattle.std.specs.Prelude.{◌≡◌, ℕ, ◌+◌, List, [], ◌∷◌, map, length, Bool, true, false, if◌then◌else◌, Option, Some, None, Ok, Err, slice_get, nat_lt}
 use Rattle.std.specs.List.{All}
 use Rattle.hp_num.specs.Wide.{◌>>=◌}
+use Rattle.hp_ast.specs.declared.limit.Limit.{Limit}
 use Rattle.hp_ast.specs.declared.problem.Sort.{Sort}
 use Rattle.hp_ast.specs.declared.problem.Sort.TheVariants as sort
 use Rattle.hp_ast.specs.declared.problem.Atom.{Atom}
@@ -17,6 +18,7 @@ use Rattle.hp_base.specs.declared.line.Line.{Line}
 use Rattle.hp_base.specs.declared.line.Origin.TheVariants.{Ground as FromClause}
 use Rattle.hp_base.specs.declared.names.Constant.{Constant}
 use Rattle.hp_base.specs.declared.names.Ground.{Ground}
+use Rattle.hp_base.specs.Limited.{coefficient, many_names}
 use Rattle.hp_base.specs.Names.{sorts}
 use Rattle.hp_model.specs.WellFormed.{Declared, constants as declarations}
 use Rattle.hp_model.specs.declared.sides.Side.{Side}
@@ -72,6 +74,15 @@ wide_from consts number (clause ∷ clauses) = if is_wide (clause_literals const
 -- the number of the first clause with a number that is too wide, counted from 1
 abbrev pub first_wide : Problem → Option ℕ
 first_wide p = wide_from (consts_of p.decls) 1 p.clauses
+
+abbrev pub wide_item : ℕ → Option ℕ → Option Limit
+wide_item before None = None
+wide_item before (Some clause) = Some (coefficient (before + clause))
+
+-- The limit that a problem passes first: that on its constants, and then that on the numbers of its clauses. Items are the
+-- declarations and then the clauses.
+abbrev pub limit_of : Problem → Option Limit
+limit_of p = if nat_lt 4000 (length p.decls) then Some many_names else wide_item (length p.decls) (first_wide p)
 
 -- ---- what the search asks of lines
 -- no name, or one of sort idx

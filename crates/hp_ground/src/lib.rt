@@ -8,7 +8,7 @@ mod grounding;
 mod laws;
 mod lines;
 
-pub use grounding::{GroundRead, ground};
+pub use grounding::ground;
 pub use laws::{structures_give_values, values_give_a_structure};
 
 #[cfg(test)]

@@ -2,6 +2,7 @@
 
 ghost use Rattle.std.specs.Prelude.{◌≡◌, ◌≤◌, length};
 ghost use Rattle.std.specs.List.{All, list_all};
+ghost use Rattle.hp_base.specs.Limited.{coefficient};
 ghost use Rattle.hp_norm.specs.Literals.{IsLightAtom, IsLightClause};
 ghost use Rattle.hp_ground.specs.Ground.{IsGroundAtom, IsGroundClause};
 ghost use Rattle.hp_ground.specs.Lines.{atoms_literals, literals_of};
@@ -9,71 +10,74 @@ ghost use Rattle.hp_ground.specs.Answers.{LineFound, LinesFound, LitsFound, Push
 
 use crate::consts::Consts;
 use crate::forms::is_num_atom;
-use hp_ast::{Atom, Clause};
-use hp_base::{Line, Lit, Origin, Refusal};
+use hp_ast::{Atom, Clause, Limit, Which};
+use hp_base::{GroundErr, Line, Lit, Origin, Refusal};
 use hp_linear::literals as num_literals;
 use hp_model::Side;
 use hp_norm::literals as idx_literals;
 use hp_num::List;
 use std::alloc::Global;
 
-/// A line; a number that is too wide; or want of memory.
-#[derive(Drop)]
-pub enum LineRead {
-    Read(Line),
-    Wide,
-    Memory,
+/// The limit on numbers, with the item that passes it.
+fn coefficient(item: u32) -> Limit
+    ensures { result ≡ coefficient item }
+{
+    Limit {
+        which: Which::Coefficient,
+        most: 0,
+        item,
+    }
 }
 
-/// The lines of all clauses; the number of the first clause with a number that is too wide, counted from 1; or want of
-/// memory.
-#[derive(Drop)]
-pub enum LinesRead {
-    Read(List<Line>),
-    Wide(u32),
-    Memory,
-}
-
-/// The lines of the clauses, numbered from 1.
-pub fn lines_of(alloc: Global, consts: &Consts, clauses: &[Clause]) -> LinesRead
+/// The lines of the clauses, numbered from 1, or the first clause with a number that is too wide, as an item: so many items
+/// stand before the clauses.
+pub fn lines_of(
+    alloc: Global,
+    consts: &Consts,
+    before: u32,
+    clauses: &[Clause],
+) -> Result<List<Line>, GroundErr>
+    requires before { before ≤ 4000 }
     requires few { length consts.now.names ≤ 4000 }
     requires sorts { length consts.now.sorts ≡ length consts.now.names }
     requires most { length clauses.now ≤ 2000 }
     requires ground { All (IsGroundClause consts.now) clauses.now }
     requires light { All IsLightClause clauses.now }
-    ensures { LinesFound consts.now clauses.now result }
+    ensures { LinesFound consts.now before clauses.now result }
 {
     let mut lines: List<Line> = List::new(alloc);
     for (at, clause) in clauses.iter().enumerate() {
         let number = at as u32 + 1;
         match line_of(alloc, consts, number, clause) {
-            LineRead::Wide => return LinesRead::Wide(number),
-            LineRead::Memory => return LinesRead::Memory,
-            LineRead::Read(line) => match lines.push(line) {
-                Err(_) => return LinesRead::Memory,
+            Err(Refusal::Wide) => return Err(GroundErr::Limit(coefficient(before + number))),
+            Err(Refusal::Memory) => return Err(GroundErr::Memory),
+            Ok(line) => match lines.push(line) {
+                Err(_) => return Err(GroundErr::Memory),
                 Ok(()) => {}
             },
         }
     }
-    LinesRead::Read(lines)
+    Ok(lines)
 }
 
 /// The line of the clause of this number.
-fn line_of(alloc: Global, consts: &Consts, number: u32, clause: &Clause) -> LineRead
+fn line_of(
+    alloc: Global,
+    consts: &Consts,
+    number: u32,
+    clause: &Clause,
+) -> Result<Line, Refusal>
     requires few { length consts.now.names ≤ 4000 }
     requires sorts { length consts.now.sorts ≡ length consts.now.names }
     requires ground { IsGroundClause consts.now clause.now }
     requires light { IsLightClause clause.now }
     ensures { LineFound consts.now number clause.now result }
 {
-    match lits_of(alloc, consts, clause) {
-        Err(Refusal::Wide) => LineRead::Wide,
-        Err(Refusal::Memory) => LineRead::Memory,
-        Ok(lits) => LineRead::Read(Line {
-            lits,
-            origin: Origin::Ground { clause: number },
-        }),
-    }
+    let lits = lits_of(alloc, consts, clause)?;
+    Ok(Line {
+        lits,
+        origin: Origin::Ground { clause: number },
+    })
 }
 
 /// The literals of the guard's atoms, and then those of the head's.

@@ -1,4 +1,5 @@
 use Rattle.std.proofs.Common.{◌<◌, ◌^◌, ◌∙◌, List, length, sym, ap, subst, arith}
+use Rattle.std.specs.Prelude.{Some}
 use Rattle.std.specs.List.{All, list_all}
 use Rattle.hp_ast.specs.declared.problem.Clause.{Clause}
 use Rattle.hp_ast.specs.declared.problem.Decl.{Decl}
@@ -8,6 +9,7 @@ use Rattle.hp_ground.specs.declared.consts.ConstsRead.TheVariants as consts
 use Rattle.hp_ground.specs.Ground.{IsGroundClause}
 use Rattle.hp_ground.specs.Answers.{ConstsFound, LinedAs, clause_is_ground}
 use Rattle.hp_ground.proofs.Declared.{many_names}
+use Rattle.hp_ground.proofs.Limited.{many_passed}
 use Rattle.hp_ground.proofs.Found.{all_tested, ground_found, is_problem, other_problem}
 use Rattle.hp_ground.proofs.grounding.ground.Goals as goal
 
@@ -30,7 +32,7 @@ returns-then-len-gt-MOST_NAMES c =
     let found = subst (λ (ds : List Decl). ConstsFound ds (consts.Read c.in-Read.consts)) c.as_slice.ensures c.in-Read.ensures in (
       is_problem c.args.p.now c.in-Read.consts found (all_tested c.in-Read.consts c.args.p.now.clauses
           (sym (c.clauses_are_ground.ensures ∙ ap (λ (cs : List Clause). list_all (clause_is_ground c.in-Read.consts) cs) c.as_slice-in-Read.ensures) ∙ c.if-not-clauses_are_ground.false)),
-      omega arith,
+      many_passed c.args.p.now (omega arith) ∙ ap Some (sym c.many_names.ensures),
     )
 
 pub with_lines-requires-clause-ground : goal.with_lines-requires-clause-ground

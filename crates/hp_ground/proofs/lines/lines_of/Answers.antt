@@ -1,8 +1,7 @@
-use Rattle.std.proofs.Common.{◌+◌, sym, subst, arith}
+use Rattle.std.proofs.Common.{Ok, ◌+◌, sym, subst, arith}
 use Rattle.std.proofs.lemmas.List.Elements.{All-get_or}
 use Rattle.hp_ast.specs.declared.problem.Clause.{Clause}
 use Rattle.hp_norm.specs.Literals.{IsLightClause}
-use Rattle.hp_ground.specs.declared.lines.LineRead.TheVariants.{Read}
 use Rattle.hp_ground.specs.Answers.{LineFound}
 use Rattle.hp_ground.proofs.Steps.{LinesSoFar, line_more}
 use Rattle.hp_ground.proofs.lines.lines_of.Goals as goal
@@ -14,6 +13,6 @@ line_of-requires-clause-light c =
 pub loop-at-preserved : goal.loop-at-preserved
 loop-at-preserved c =
     let consts = c.args.consts.now in
-    subst (LinesSoFar consts c.args.clauses.now (c.loop-at.at + 1)) (sym c.in-Ok.ensures.ok)
-    (line_more consts c.args.clauses.now c.loop-at.at c.index-clauses-at.result c.loop-at.lines (omega arith) c.loop-at.invariant c.in-Read.line
-    (subst (λ (x : Clause). LineFound consts (c.loop-at.at + 1) x (Read c.in-Read.line)) c.index-clauses-at.is c.in-Read.ensures))
+    subst (LinesSoFar consts c.args.clauses.now (c.loop-at.at + 1)) (sym c.in-Ok-push.ensures.ok)
+    (line_more consts c.args.clauses.now c.loop-at.at c.index-clauses-at.result c.loop-at.lines (omega arith) c.loop-at.invariant c.in-Ok.line
+    (subst (λ (x : Clause). LineFound consts (c.loop-at.at + 1) x (Ok c.in-Ok.line)) c.index-clauses-at.is c.in-Ok.ensures))
