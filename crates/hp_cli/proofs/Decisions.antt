@@ -1,10 +1,8 @@
 -- What each step of the decision says of the answer.
 use Rattle.std.proofs.Common.{◌≡◌, ◌≢◌, ◌<◌, ◌≤◌, ◌+◌, ◌^◌, ℕ, List, Bool, true, false, cond, length, nat_lt, Option, Some, None, Result, Ok, Err, IfOk, refl, sym, ap, subst, ◌∙◌, arith}
 use Rattle.std.proofs.lemmas.Bool.{ltb-false}
-use Rattle.hp_ast.specs.declared.limit.Which.TheVariants.{Names}
 use Rattle.hp_ast.specs.declared.problem.Problem.{Problem}
 use Rattle.hp_bounds.proofs.Bounds as bounds
-use Rattle.hp_ground.specs.Answers.{IsFirstWide}
 use Rattle.hp_ground.specs.Ground.{IsGroundProblem}
 use Rattle.hp_norm.specs.Literals.{IsLight}
 use Rattle.hp_cli.specs.NotBuilt.{IsBuilt, IsNotBuilt}
@@ -13,15 +11,8 @@ use Rattle.hp_solve.specs.Solved.{IsInScope}
 use Rattle.hp_sorts.specs.declared.fault.SortErr.{SortErr}
 use Rattle.hp_sorts.specs.declared.fault.SortErr.TheVariants.{Twice, Level, Unknown, Arity, Mismatch, Memory}
 use Rattle.hp_sorts.specs.Faults.{IsCause}
-use Rattle.hp_sorts.specs.Limits.{limit as limit_of, passed}
-use Rattle.hp_cli.specs.declared.answer.Status.{Status}
-use Rattle.hp_cli.specs.declared.answer.Status.TheVariants.{Limit}
-use Rattle.hp_cli.specs.declared.deciding.Answer.{Answer}
-use Rattle.hp_cli.specs.declared.words.Task.TheVariants.{Solve}
-use Rattle.hp_cli.specs.Answer.{Does}
-use Rattle.hp_cli.specs.Answer as answers
-use Rattle.hp_cli.specs.Refusals.{limit_text}
-use Rattle.hp_cli.specs.Verdicts.{InScope, IsCounted, IsRead, coefficient}
+use Rattle.hp_sorts.specs.Limits.{passed}
+use Rattle.hp_cli.specs.Verdicts.{InScope, IsCounted, IsRead}
 
 -- ---- what a problem that was read keeps to
 pub few_items : (bytes : List ℕ) (p : Problem) → IsRead bytes p → (length p.decls + length p.clauses) < 2 ^ 28
@@ -54,30 +45,4 @@ pub no_const_problem : (bytes : List ℕ) (p : Problem) → IsCounted bytes p �
 no_const_problem bytes p c other built = other ((scope_by_sorts p c.sorted.sorted).1 built)
 
 pub in_scope : (bytes : List ℕ) (p : Problem) → IsCounted bytes p → IsInScope p → InScope bytes p
-in_scope bytes p c s = record { counted = c; built = const_problem bytes p c s.problem; names = s.names; narrow = s.narrow }
-
--- the answer for too many constants, where there is one
-pub too_many_names : {E : Type 0} (most : ℕ) (bytes : List ℕ) (p : Problem) → IsCounted bytes p → IsGroundProblem p → 4000 < length p.decls
-    → (r : Result Answer E) → IfOk r (λ answer. (answer.status ≡ Limit) × (answer.text ≡ limit_text (limit_of Names 4000)))
-    → IfOk r (λ answer. Does bytes answer.text (Solve most) answer.status)
-too_many_names most bytes p c ground size (Ok answer) h =
-    subst (λ (s : Status). Does bytes answer.text (Solve most) s) (sym h.0)
-    (answers.too_many_names (record { problem = p; counted = c; built = const_problem bytes p c ground; size = size; written = h.1 }))
-too_many_names most bytes p c ground size (Err e) h = h
-
--- the same for a number that is too wide
-pub too_wide : {E : Type 0} (most : ℕ) (bytes : List ℕ) (p : Problem) (item : ℕ) → IsCounted bytes p → IsFirstWide p item
-    → (r : Result Answer E) → IfOk r (λ answer. (answer.status ≡ Limit) × (answer.text ≡ limit_text (coefficient item)))
-    → IfOk r (λ answer. Does bytes answer.text (Solve most) answer.status)
-too_wide most bytes p item c wide (Ok answer) h =
-    subst (λ (s : Status). Does bytes answer.text (Solve most) s) (sym h.0)
-    (answers.too_wide (record {
-      problem = p;
-      counted = c;
-      built = const_problem bytes p c wide.problem;
-      few = wide.few;
-      clause = wide.clause;
-      cause = wide.first;
-      written = h.1 ∙ ap (λ n. limit_text (coefficient n)) wide.same;
-    }))
-too_wide most bytes p item c wide (Err e) h = h
+in_scope bytes p c s = record { counted = c; built = const_problem bytes p c s.problem; within = s.within }

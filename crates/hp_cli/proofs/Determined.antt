@@ -7,7 +7,7 @@ use Rattle.hp_faults.proofs.Faults.{one_fault}
 use Rattle.hp_read.proofs.BytesLaws.{no_fault, one_problem}
 use Rattle.hp_sorts.specs.Faults.{sort_fault}
 use Rattle.hp_sorts.specs.Limits.{passed}
-use Rattle.hp_ground.specs.Lines.{first_wide}
+use Rattle.hp_ground.specs.Lines.{limit_of}
 use Rattle.hp_cli.specs.NotBuilt.{IsBuilt, IsNotBuilt}
 use Rattle.hp_cli.specs.Size.{most_bytes}
 use Rattle.hp_cli.specs.declared.answer.Status.{Status}
@@ -18,7 +18,7 @@ use Rattle.hp_cli.specs.Answer.{Answers, Does}
 use Rattle.hp_cli.specs.Answer as answers
 use Rattle.hp_cli.specs.Laws.{IsDetermined, OneAnswer}
 use Rattle.hp_cli.specs.Refusals.{limit_text, sort_text, spelling_text}
-use Rattle.hp_cli.specs.Verdicts.{InScope, IsCounted, IsRead, IsSorted, Missorted, Misspelled, OtherForm, Printed, TooLong, TooMany, TooManyNames, TooWide, coefficient}
+use Rattle.hp_cli.specs.Verdicts.{InScope, IsCounted, IsRead, IsSorted, Limited, Missorted, Misspelled, OtherForm, Printed, TooLong, TooMany}
 use Rattle.hp_cli.specs.Words.{Asks}
 use Rattle.hp_cli.proofs.Settled.{printing_solves}
 
@@ -31,8 +31,7 @@ data SolveEnds (bytes text : List ℕ) : Status → Type 0 where
   long : TooLong bytes text → SolveEnds bytes text Limit
   missorted : Missorted bytes text → SolveEnds bytes text Sort
   many : TooMany bytes text → SolveEnds bytes text Limit
-  names : TooManyNames bytes text → SolveEnds bytes text Limit
-  wide : TooWide bytes text → SolveEnds bytes text Limit
+  limited : Limited bytes text → SolveEnds bytes text Limit
   form : OtherForm bytes text → SolveEnds bytes text NotBuilt
   verdict : (p : Problem) (s : Status) → InScope bytes p → (IsDetermined s → ⊥) → SolveEnds bytes text s
 
@@ -42,8 +41,7 @@ solve_ends most bytes text _ (answers.misspelled h) = misspelled h
 solve_ends most bytes text _ (answers.missorted h) = missorted h
 solve_ends most bytes text _ (answers.too_many h) = many h
 solve_ends most bytes text _ (answers.other_form h) = form h
-solve_ends most bytes text _ (answers.too_many_names h) = names h
-solve_ends most bytes text _ (answers.too_wide h) = wide h
+solve_ends most bytes text _ (answers.limited h) = limited h
 solve_ends most bytes text _ (answers.strained h) = verdict h.problem Overflow h.scope (λ d. d (inl answers.overflow))
 solve_ends most bytes text _ (answers.satisfiable h) = verdict h.problem Sat h.scope (λ d. d (inl answers.sat))
 solve_ends most bytes text _ (answers.unsatisfiable h) = verdict h.problem Unsat h.scope (λ d. d (inl answers.unsat))
@@ -89,40 +87,24 @@ module _ (bytes text other : List ℕ) where
   one_count : TooMany bytes text → TooMany bytes other → text ≡ other
   one_count a b =
       let same = one_read a.problem b.problem a.sorted.read b.sorted.read in
-      a.written ∙ ap limit_text (some_same a.limit_of b.limit_of (sym a.cause ∙ ap passed same ∙ b.cause)) ∙ sym b.written
+      a.written ∙ ap limit_text (some_same a.passed_limit b.passed_limit (sym a.cause ∙ ap passed same ∙ b.cause)) ∙ sym b.written
 
   many_or_counted : (p : Problem) → TooMany bytes text → IsCounted bytes p → ⊥
-  many_or_counted p a s = let same = one_read a.problem p a.sorted.read s.sorted.read in let e : Some a.limit_of ≡ None = sym a.cause ∙ ap passed same ∙ s.counted in cc
+  many_or_counted p a s = let same = one_read a.problem p a.sorted.read s.sorted.read in let e : Some a.passed_limit ≡ None = sym a.cause ∙ ap passed same ∙ s.counted in cc
 
   counted_or_many : (p : Problem) → IsCounted bytes p → TooMany bytes other → ⊥
-  counted_or_many p s b = let same = one_read p b.problem s.sorted.read b.sorted.read in let e : None ≡ Some b.limit_of = sym s.counted ∙ ap passed same ∙ b.cause in cc
+  counted_or_many p s b = let same = one_read p b.problem s.sorted.read b.sorted.read in let e : None ≡ Some b.passed_limit = sym s.counted ∙ ap passed same ∙ b.cause in cc
 
-  names_or_few : (p : Problem) → TooManyNames bytes text → InScope bytes p → ⊥
-  names_or_few p a s =
+  limited_or_within : (p : Problem) → Limited bytes text → InScope bytes p → ⊥
+  limited_or_within p a s =
       let same = one_read a.problem p a.counted.sorted.read s.counted.sorted.read in
-      omega (arith, subst (λ (q : Problem). 4000 < length q.decls) same a.size, s.names)
-
-  wide_or_narrow : (p : Problem) → TooWide bytes text → InScope bytes p → ⊥
-  wide_or_narrow p a s =
-      let same = one_read a.problem p a.counted.sorted.read s.counted.sorted.read in
-      let none : None ≡ Some a.clause = sym s.narrow ∙ ap first_wide (sym same) ∙ a.cause in
+      let none : None ≡ Some a.passed_limit = sym s.within ∙ ap limit_of (sym same) ∙ a.cause in
       cc
 
-  few_or_names : (a : TooWide bytes text) (b : TooManyNames bytes other) → ⊥
-  few_or_names a b =
-      let same = one_read b.problem a.problem b.counted.sorted.read a.counted.sorted.read in
-      omega (arith, subst (λ (q : Problem). 4000 < length q.decls) same b.size, a.few)
-
-  names_or_wide : (a : TooManyNames bytes text) (b : TooWide bytes other) → ⊥
-  names_or_wide a b =
+  one_limit : Limited bytes text → Limited bytes other → text ≡ other
+  one_limit a b =
       let same = one_read a.problem b.problem a.counted.sorted.read b.counted.sorted.read in
-      omega (arith, subst (λ (q : Problem). 4000 < length q.decls) same a.size, b.few)
-
-  one_width : TooWide bytes text → TooWide bytes other → text ≡ other
-  one_width a b =
-      let same = one_read a.problem b.problem a.counted.sorted.read b.counted.sorted.read in
-      let clause = some_same a.clause b.clause (sym a.cause ∙ ap first_wide same ∙ b.cause) in
-      a.written ∙ (λ i. limit_text (coefficient (length (same i).decls + clause i))) ∙ sym b.written
+      a.written ∙ ap limit_text (some_same a.passed_limit b.passed_limit (sym a.cause ∙ ap limit_of same ∙ b.cause)) ∙ sym b.written
 
   built_or_other : (p q : Problem) → IsCounted bytes p → IsCounted bytes q → IsBuilt p → IsNotBuilt q → ⊥
   built_or_other p q c d built other_built = other_built (subst IsBuilt (one_read p q c.sorted.read d.sorted.read) built)
@@ -144,56 +126,42 @@ module _ (bytes text other : List ℕ) where
   one_solve_end _ _ (misspelled a) (long b) d = absurd (short_or_long a.size b)
   one_solve_end _ _ (misspelled a) (missorted b) d = absurd (misspelled_or_read b.problem a b.read)
   one_solve_end _ _ (misspelled a) (many b) d = absurd (misspelled_or_read b.problem a b.sorted.read)
-  one_solve_end _ _ (misspelled a) (names b) d = absurd (misspelled_or_read b.problem a b.counted.sorted.read)
-  one_solve_end _ _ (misspelled a) (wide b) d = absurd (misspelled_or_read b.problem a b.counted.sorted.read)
+  one_solve_end _ _ (misspelled a) (limited b) d = absurd (misspelled_or_read b.problem a b.counted.sorted.read)
   one_solve_end _ _ (misspelled a) (form b) d = absurd (misspelled_or_read b.problem a b.counted.sorted.read)
   one_solve_end _ _ (misspelled a) (verdict q t b n) d = absurd (misspelled_or_read q a b.counted.sorted.read)
   one_solve_end _ _ (long a) (misspelled b) d = absurd (long_or_short a b.size)
   one_solve_end _ _ (long a) (long b) d = (refl, one_length a b)
   one_solve_end _ _ (long a) (missorted b) d = absurd (long_or_short a b.read.size)
   one_solve_end _ _ (long a) (many b) d = absurd (long_or_short a b.sorted.read.size)
-  one_solve_end _ _ (long a) (names b) d = absurd (long_or_short a b.counted.sorted.read.size)
-  one_solve_end _ _ (long a) (wide b) d = absurd (long_or_short a b.counted.sorted.read.size)
+  one_solve_end _ _ (long a) (limited b) d = absurd (long_or_short a b.counted.sorted.read.size)
   one_solve_end _ _ (long a) (form b) d = absurd (long_or_short a b.counted.sorted.read.size)
   one_solve_end _ _ (long a) (verdict q t b n) d = absurd (long_or_short a b.counted.sorted.read.size)
   one_solve_end _ _ (missorted a) (misspelled b) d = absurd (read_or_misspelled a.problem a.read b)
   one_solve_end _ _ (missorted a) (long b) d = absurd (short_or_long a.read.size b)
   one_solve_end _ _ (missorted a) (missorted b) d = (refl, one_sort a b)
   one_solve_end _ _ (missorted a) (many b) d = absurd (missorted_or_sorted b.problem a b.sorted)
-  one_solve_end _ _ (missorted a) (names b) d = absurd (missorted_or_sorted b.problem a b.counted.sorted)
-  one_solve_end _ _ (missorted a) (wide b) d = absurd (missorted_or_sorted b.problem a b.counted.sorted)
+  one_solve_end _ _ (missorted a) (limited b) d = absurd (missorted_or_sorted b.problem a b.counted.sorted)
   one_solve_end _ _ (missorted a) (form b) d = absurd (missorted_or_sorted b.problem a b.counted.sorted)
   one_solve_end _ _ (missorted a) (verdict q t b n) d = absurd (missorted_or_sorted q a b.counted.sorted)
   one_solve_end _ _ (many a) (misspelled b) d = absurd (read_or_misspelled a.problem a.sorted.read b)
   one_solve_end _ _ (many a) (long b) d = absurd (short_or_long a.sorted.read.size b)
   one_solve_end _ _ (many a) (missorted b) d = absurd (sorted_or_missorted a.problem a.sorted b)
   one_solve_end _ _ (many a) (many b) d = (refl, one_count a b)
-  one_solve_end _ _ (many a) (names b) d = absurd (many_or_counted b.problem a b.counted)
-  one_solve_end _ _ (many a) (wide b) d = absurd (many_or_counted b.problem a b.counted)
+  one_solve_end _ _ (many a) (limited b) d = absurd (many_or_counted b.problem a b.counted)
   one_solve_end _ _ (many a) (form b) d = absurd (many_or_counted b.problem a b.counted)
   one_solve_end _ _ (many a) (verdict q t b n) d = absurd (many_or_counted q a b.counted)
-  one_solve_end _ _ (names a) (misspelled b) d = absurd (read_or_misspelled a.problem a.counted.sorted.read b)
-  one_solve_end _ _ (names a) (long b) d = absurd (short_or_long a.counted.sorted.read.size b)
-  one_solve_end _ _ (names a) (missorted b) d = absurd (sorted_or_missorted a.problem a.counted.sorted b)
-  one_solve_end _ _ (names a) (many b) d = absurd (counted_or_many a.problem a.counted b)
-  one_solve_end _ _ (names a) (names b) d = (refl, a.written ∙ sym b.written)
-  one_solve_end _ _ (names a) (wide b) d = absurd (names_or_wide a b)
-  one_solve_end _ _ (names a) (form b) d = absurd (built_or_other a.problem b.problem a.counted b.counted a.built b.other)
-  one_solve_end _ _ (names a) (verdict q t b n) d = absurd (names_or_few q a b)
-  one_solve_end _ _ (wide a) (misspelled b) d = absurd (read_or_misspelled a.problem a.counted.sorted.read b)
-  one_solve_end _ _ (wide a) (long b) d = absurd (short_or_long a.counted.sorted.read.size b)
-  one_solve_end _ _ (wide a) (missorted b) d = absurd (sorted_or_missorted a.problem a.counted.sorted b)
-  one_solve_end _ _ (wide a) (many b) d = absurd (counted_or_many a.problem a.counted b)
-  one_solve_end _ _ (wide a) (names b) d = absurd (few_or_names a b)
-  one_solve_end _ _ (wide a) (wide b) d = (refl, one_width a b)
-  one_solve_end _ _ (wide a) (form b) d = absurd (built_or_other a.problem b.problem a.counted b.counted a.built b.other)
-  one_solve_end _ _ (wide a) (verdict q t b n) d = absurd (wide_or_narrow q a b)
+  one_solve_end _ _ (limited a) (misspelled b) d = absurd (read_or_misspelled a.problem a.counted.sorted.read b)
+  one_solve_end _ _ (limited a) (long b) d = absurd (short_or_long a.counted.sorted.read.size b)
+  one_solve_end _ _ (limited a) (missorted b) d = absurd (sorted_or_missorted a.problem a.counted.sorted b)
+  one_solve_end _ _ (limited a) (many b) d = absurd (counted_or_many a.problem a.counted b)
+  one_solve_end _ _ (limited a) (form b) d = absurd (built_or_other a.problem b.problem a.counted b.counted a.built b.other)
+  one_solve_end _ _ (limited a) (verdict q t b n) d = absurd (limited_or_within q a b)
+  one_solve_end _ _ (limited a) (limited b) d = (refl, one_limit a b)
   one_solve_end _ _ (form a) (misspelled b) d = absurd (read_or_misspelled a.problem a.counted.sorted.read b)
   one_solve_end _ _ (form a) (long b) d = absurd (short_or_long a.counted.sorted.read.size b)
   one_solve_end _ _ (form a) (missorted b) d = absurd (sorted_or_missorted a.problem a.counted.sorted b)
   one_solve_end _ _ (form a) (many b) d = absurd (counted_or_many a.problem a.counted b)
-  one_solve_end _ _ (form a) (names b) d = absurd (built_or_other b.problem a.problem b.counted a.counted b.built a.other)
-  one_solve_end _ _ (form a) (wide b) d = absurd (built_or_other b.problem a.problem b.counted a.counted b.built a.other)
+  one_solve_end _ _ (form a) (limited b) d = absurd (built_or_other b.problem a.problem b.counted a.counted b.built a.other)
   one_solve_end _ _ (form a) (form b) d = (refl, a.written ∙ sym b.written)
   one_solve_end _ _ (form a) (verdict q t b n) d = absurd (built_or_other q a.problem b.counted a.counted b.built a.other)
   one_solve_end s t (verdict p _ a n) b d = absurd (n d)

@@ -5,15 +5,15 @@ use Rattle.hp_ast.specs.declared.problem.Problem.{Problem}
 use Rattle.hp_read.proofs.BytesLaws.{no_fault, one_problem}
 use Rattle.hp_sorts.specs.Faults.{sort_fault}
 use Rattle.hp_sorts.specs.Limits.{passed}
-use Rattle.hp_ground.specs.Lines.{first_wide}
+use Rattle.hp_ground.specs.Lines.{limit_of}
 use Rattle.hp_cli.specs.NotBuilt.{IsBuilt}
 use Rattle.hp_cli.specs.declared.answer.Status.{Status}
 use Rattle.hp_cli.specs.declared.words.Task.{Task}
 use Rattle.hp_cli.specs.declared.words.Task.TheVariants.{Solve, Print}
 use Rattle.hp_cli.specs.Answer.{Answers, Does, IsSettled, IsSolving, Stands}
-use Rattle.hp_cli.specs.Answer.{done, misspelled, missorted, other_form, out_of_nodes, satisfiable, strained, too_long, too_many, too_many_names, too_wide, unsatisfiable, usage}
+use Rattle.hp_cli.specs.Answer.{done, limited, misspelled, missorted, other_form, out_of_nodes, satisfiable, strained, too_long, too_many, unsatisfiable, usage}
 use Rattle.hp_cli.specs.Answer.{memory, overflow, read, sat, spent, unread, unsat, unwritten, wanted, wanting, whole, write}
-use Rattle.hp_cli.specs.Verdicts.{InScope, OtherForm, Missorted, Misspelled, TooLong, TooMany, TooManyNames, TooWide}
+use Rattle.hp_cli.specs.Verdicts.{InScope, Limited, OtherForm, Missorted, Misspelled, TooLong, TooMany}
 use Rattle.hp_cli.specs.Words.{Asks, IsSolve}
 
 -- ---- words
@@ -46,19 +46,13 @@ module _ (bytes text : List ℕ) (p : Problem) (scope : InScope bytes p) where
   no_counts : TooMany bytes text → ⊥
   no_counts m =
       let same = one_problem bytes p m.problem scope.counted.sorted.read.spelled m.sorted.read.spelled in
-      let none : None ≡ Some m.limit_of = sym scope.counted.counted ∙ ap passed same ∙ m.cause in
+      let none : None ≡ Some m.passed_limit = sym scope.counted.counted ∙ ap passed same ∙ m.cause in
       cc
 
-  no_names : TooManyNames bytes text → ⊥
-  no_names m =
+  no_limit : Limited bytes text → ⊥
+  no_limit m =
       let same = one_problem bytes p m.problem scope.counted.sorted.read.spelled m.counted.sorted.read.spelled in
-      let few = subst (λ (q : Problem). length q.decls ≤ 4000) same scope.names in
-      omega (arith, m.size, few)
-
-  no_width : TooWide bytes text → ⊥
-  no_width m =
-      let same = one_problem bytes p m.problem scope.counted.sorted.read.spelled m.counted.sorted.read.spelled in
-      let none : None ≡ Some m.clause = sym scope.narrow ∙ ap first_wide same ∙ m.cause in
+      let none : None ≡ Some m.passed_limit = sym scope.within ∙ ap limit_of same ∙ m.cause in
       cc
 
   no_other_form : OtherForm bytes text → ⊥
@@ -72,8 +66,7 @@ module _ (bytes text : List ℕ) (p : Problem) (scope : InScope bytes p) where
   solves_settled most _ (missorted h) = absurd (no_missorting h)
   solves_settled most _ (too_many h) = absurd (no_counts h)
   solves_settled most _ (other_form h) = absurd (no_other_form h)
-  solves_settled most _ (too_many_names h) = absurd (no_names h)
-  solves_settled most _ (too_wide h) = absurd (no_width h)
+  solves_settled most _ (limited h) = absurd (no_limit h)
   solves_settled most _ (strained h) = inl overflow
   solves_settled most _ (satisfiable h) = inl sat
   solves_settled most _ (unsatisfiable h) = inl unsat

@@ -8,7 +8,7 @@ use Rattle.hp_cli.specs.declared.words.Task.{Task}
 use Rattle.hp_cli.specs.declared.words.Task.TheVariants.{Solve, Print}
 use Rattle.hp_cli.specs.Words.{Asks, IsUsage}
 use Rattle.hp_cli.specs.Refusals.{usage_text}
-use Rattle.hp_cli.specs.Verdicts.{Missorted, Misspelled, OtherForm, OutOfNodes, Printed, Satisfiable, Strained, TooLong, TooMany, TooManyNames, TooWide, Unsatisfiable}
+use Rattle.hp_cli.specs.Verdicts.{Limited, Missorted, Misspelled, OtherForm, OutOfNodes, Printed, Satisfiable, Strained, TooLong, TooMany, Unsatisfiable}
 
 -- the exit status
 abbrev pub code : Status → ℕ
@@ -38,8 +38,7 @@ pub data Does (bytes text : List ℕ) : Task → Status → Type 0 where
   missorted : {most : ℕ} → Missorted bytes text → Does bytes text (Solve most) Sort
   too_many : {most : ℕ} → TooMany bytes text → Does bytes text (Solve most) Limit
   other_form : {most : ℕ} → OtherForm bytes text → Does bytes text (Solve most) NotBuilt
-  too_many_names : {most : ℕ} → TooManyNames bytes text → Does bytes text (Solve most) Limit
-  too_wide : {most : ℕ} → TooWide bytes text → Does bytes text (Solve most) Limit
+  limited : {most : ℕ} → Limited bytes text → Does bytes text (Solve most) Limit
   strained : {most : ℕ} → Strained bytes text → Does bytes text (Solve most) Overflow
   satisfiable : {most : ℕ} → Satisfiable bytes text → Does bytes text (Solve most) Sat
   unsatisfiable : {most : ℕ} → Unsatisfiable bytes text → Does bytes text (Solve most) Unsat

@@ -2,7 +2,7 @@
 use Rattle.std.specs.Prelude.{◌≡◌, ◌≢◌, ℕ, ◌<◌, ◌≤◌, List, ◌++◌, ◌+◌, codes, length, Some, None}
 use Rattle.std.specs.Fmt.{decimal}
 use Rattle.hp_ast.specs.declared.limit.Limit.{Limit}
-use Rattle.hp_ast.specs.declared.limit.Which.TheVariants.{Bytes, Names, Coefficient}
+use Rattle.hp_ast.specs.declared.limit.Which.TheVariants.{Bytes}
 use Rattle.hp_ast.specs.declared.problem.Problem.{Problem}
 use Rattle.hp_ast.specs.Printing.{problem_text}
 use Rattle.hp_base.specs.declared.names.Ground.{Ground}
@@ -24,15 +24,11 @@ use Rattle.hp_cert.specs.Refutes.{Refutes}
 use Rattle.hp_cert.specs.Spelled.{IsSpelled}
 use Rattle.hp_descent.specs.declared.answer.Strain.{Strain}
 use Rattle.hp_search.specs.Search.{IsHonestStrain}
-use Rattle.hp_ground.specs.Lines.{IsGroundOf, first_wide}
+use Rattle.hp_ground.specs.Lines.{IsGroundOf, limit_of}
 use Rattle.hp_cert.specs.Overflow.{overflow_text}
 use Rattle.hp_cli.specs.NotBuilt.{IsBuilt, IsNotBuilt}
 use Rattle.hp_cli.specs.Size.{most_bytes}
 use Rattle.hp_cli.specs.Refusals.{line, limit_text, not_built_text, sort_text, spelling_text}
-
--- the limit on numbers, with the item that passes it
-abbrev pub coefficient : ℕ → Limit
-coefficient item = record { which = Coefficient; most = 0; item = item }
 
 -- ---- how far an input comes
 -- at most 1,048,576 bytes, and they spell the problem
@@ -50,13 +46,12 @@ pub record IsCounted (bytes : List ℕ) (p : Problem) : Type 0 where
   pub sorted : IsSorted bytes p
   pub counted : passed p ≡ None
 
--- Its form is decided, it has at most 4,000 constants, and no number of a normal form passes 2^127 - 1: the texts that get a
--- verdict, or a strain.
+-- Its form is decided, and it passes no limit: it has at most 4,000 constants, and no number of a normal form passes
+-- 2^127 - 1. These are the texts that get a verdict, or a strain.
 pub record InScope (bytes : List ℕ) (p : Problem) : Type 0 where
   pub counted : IsCounted bytes p
   pub built : IsBuilt p
-  pub names : length p.decls ≤ 4000
-  pub narrow : first_wide p ≡ None
+  pub within : limit_of p ≡ None
 
 -- ---- refusals
 pub record Misspelled (bytes text : List ℕ) : Type 0 where
@@ -82,27 +77,18 @@ pub record TooLong (bytes text : List ℕ) : Type 0 where
 pub record TooMany (bytes text : List ℕ) : Type 0 where
   pub problem : Problem
   pub sorted : IsSorted bytes problem
-  pub limit_of : Limit
-  pub cause : passed problem ≡ Some limit_of
-  pub written : text ≡ limit_text limit_of
+  pub passed_limit : Limit
+  pub cause : passed problem ≡ Some passed_limit
+  pub written : text ≡ limit_text passed_limit
 
--- more constants
-pub record TooManyNames (bytes text : List ℕ) : Type 0 where
+-- more constants than a ground problem may have, or a number of a normal form that is too wide
+pub record Limited (bytes text : List ℕ) : Type 0 where
   pub problem : Problem
   pub counted : IsCounted bytes problem
   pub built : IsBuilt problem
-  pub size : 4000 < length problem.decls
-  pub written : text ≡ limit_text (limit Names 4000)
-
--- a number of a normal form passes 2^127 - 1, first in this clause; items are the declarations and then the clauses
-pub record TooWide (bytes text : List ℕ) : Type 0 where
-  pub problem : Problem
-  pub counted : IsCounted bytes problem
-  pub built : IsBuilt problem
-  pub few : length problem.decls ≤ 4000
-  pub clause : ℕ
-  pub cause : first_wide problem ≡ Some clause
-  pub written : text ≡ limit_text (coefficient (length problem.decls + clause))
+  pub passed_limit : Limit
+  pub cause : limit_of problem ≡ Some passed_limit
+  pub written : text ≡ limit_text passed_limit
 
 -- a form that isn't decided so far
 pub record OtherForm (bytes text : List ℕ) : Type 0 where

@@ -5,15 +5,14 @@ ghost use Rattle.std.specs.Fmt.{decimal};
 ghost use Rattle.hp_cert.specs.Refutation.{refutation_text};
 ghost use Rattle.hp_model.specs.Written.{structure_text};
 ghost use Rattle.hp_grammar.specs.Spells.{IsFault};
-ghost use Rattle.hp_sorts.specs.Limits.{limit as limit_of};
 ghost use Rattle.hp_cli.specs.Answer.{Does};
-ghost use Rattle.hp_cli.specs.Refusals.{limit_text, line};
+ghost use Rattle.hp_cli.specs.Refusals.{line};
 ghost use Rattle.hp_cli.specs.Size.{most_bytes};
-ghost use Rattle.hp_cli.specs.Verdicts.{IsCounted, IsRead, coefficient};
+ghost use Rattle.hp_cli.specs.Verdicts.{IsCounted, IsRead};
 ghost use Rattle.hp_cli.specs.Words.{IsTask};
 
 use crate::answer::Status;
-use crate::limits::{MOST_BYTES, MOST_NAMES};
+use crate::limits::MOST_BYTES;
 use crate::refusals;
 use crate::words::Task;
 use hp_ast::{Limit, Problem, Which};
@@ -167,8 +166,10 @@ fn settle(alloc: Global, bytes: &[u8], problem: &Problem, most: u64) -> Result<A
             text: refusals::not_built(alloc)?,
             status: Status::NotBuilt,
         }),
-        Solved::ManyNames => many_names(alloc),
-        Solved::Wide(item) => wide_number(alloc, item),
+        Solved::Limit(limit) => Ok(Answer {
+            text: refusals::limit(alloc, limit)?,
+            status: Status::Limit,
+        }),
         Solved::Strained(strain) => Ok(Answer {
             text: overflow_text(alloc, &strain)?,
             status: Status::Overflow,
@@ -186,34 +187,4 @@ fn settle(alloc: Global, bytes: &[u8], problem: &Problem, most: u64) -> Result<A
             status: Status::Spent,
         }),
     }
-}
-
-/// The answer where the problem has more constants than a ground problem may have.
-fn many_names(alloc: Global) -> Result<Answer, AllocError>
-    ensures { IfOk result (λ answer. (answer.status ≡ Status.Limit) × (answer.text ≡ limit_text (limit_of Which.Names 4000))) }
-{
-    let limit = Limit {
-        which: Which::Names,
-        most: MOST_NAMES,
-        item: 0,
-    };
-    Ok(Answer {
-        text: refusals::limit(alloc, limit)?,
-        status: Status::Limit,
-    })
-}
-
-/// The answer where a number of a normal form passes 2^127 - 1, first in the clause that is this item.
-fn wide_number(alloc: Global, item: u32) -> Result<Answer, AllocError>
-    ensures { IfOk result (λ answer. (answer.status ≡ Status.Limit) × (answer.text ≡ limit_text (coefficient item))) }
-{
-    let limit = Limit {
-        which: Which::Coefficient,
-        most: 0,
-        item,
-    };
-    Ok(Answer {
-        text: refusals::limit(alloc, limit)?,
-        status: Status::Limit,
-    })
 }

@@ -2,6 +2,3 @@
 
 /// The most bytes of a problem.
 pub const MOST_BYTES: usize = 1_048_576;
-
-/// The most names of a ground problem.
-pub const MOST_NAMES: u64 = 4_000;

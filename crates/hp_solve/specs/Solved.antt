@@ -1,5 +1,5 @@
 -- What a verdict says of a problem.
-use Rattle.std.specs.Prelude.{◌≡◌, ℕ, ◌<◌, ◌≤◌, [], length, None}
+use Rattle.std.specs.Prelude.{◌≡◌, ℕ, [], Some, None}
 use Rattle.std.specs.List.{All}
 use Rattle.hp_ast.specs.declared.problem.Problem.{Problem}
 use Rattle.hp_base.specs.declared.names.Ground.{Ground}
@@ -14,16 +14,14 @@ use Rattle.hp_model.specs.Satisfies.{Satisfies}
 use Rattle.hp_descent.specs.declared.answer.Strain.{Strain}
 use Rattle.hp_search.specs.Search.{IsHonestStrain}
 use Rattle.hp_ground.specs.Ground.{IsGroundProblem, declared}
-use Rattle.hp_ground.specs.Lines.{IsGroundOf, first_wide}
-use Rattle.hp_ground.specs.Answers.{IsFirstWide}
+use Rattle.hp_ground.specs.Lines.{IsGroundOf, limit_of}
 use Rattle.hp_solve.specs.declared.solving.Solved.{Solved}
-use Rattle.hp_solve.specs.declared.solving.Solved.TheVariants.{Sat, Unsat, Spent, Strained, Other, ManyNames, Wide, Memory}
+use Rattle.hp_solve.specs.declared.solving.Solved.TheVariants.{Sat, Unsat, Spent, Strained, Other, Limit, Memory}
 
--- a problem over constants of sort idx and num, at most 4,000 of them, with no number too wide for its normal forms
+-- a problem over constants of sort idx and num that passes no limit
 pub record IsInScope (p : Problem) : Type 0 where
   pub problem : IsGroundProblem p
-  pub names : length p.decls ≤ 4000
-  pub narrow : first_wide p ≡ None
+  pub within : limit_of p ≡ None
 
 -- no declared name has a line feed, as in each problem that some text spells
 abbrev pub AreNamesOnOneLine : Problem → Type 0
@@ -70,6 +68,5 @@ SolvedAs p most (Unsat r) = IsUnsat p r
 SolvedAs p most (Spent r) = IsSpentOn p most r
 SolvedAs p most (Strained s) = IsStrainedOn p s
 SolvedAs p most Other = IsGroundProblem p → ⊥
-SolvedAs p most ManyNames = IsGroundProblem p × (4000 < length p.decls)
-SolvedAs p most (Wide item) = IsFirstWide p item
+SolvedAs p most (Limit l) = IsGroundProblem p × (limit_of p ≡ Some l)
 SolvedAs p most Memory = Unit {0}

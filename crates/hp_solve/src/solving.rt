@@ -8,11 +8,11 @@ ghost use Rattle.hp_ground.specs.Lines.{IsGroundOf};
 ghost use Rattle.hp_norm.specs.Literals.{IsLight};
 ghost use Rattle.hp_solve.specs.Solved.{IsInScope, SolvedAs};
 
-use hp_ast::Problem;
-use hp_base::{Constant, Ground, Valuation};
+use hp_ast::{Limit, Problem};
+use hp_base::{Constant, Ground, GroundErr, Valuation};
 use hp_cert::{Refutation, entries};
 use hp_descent::Strain;
-use hp_ground::{GroundRead, ground};
+use hp_ground::ground;
 use hp_leaf::Node;
 use hp_model::{ConstValue, Structure};
 use hp_num::List;
@@ -32,11 +32,10 @@ pub enum Solved {
     Strained(Strain),
     /// The problem is not one over constants of sort idx and num, without functions and variables.
     Other,
-    /// The problem is such a one, and declares more than 4,000 constants.
-    ManyNames,
-    /// The problem is such a one, and a number of the normal form of an atom passes 2^127 - 1. The first clause with such an
-    /// atom is this item, counted from 1: the declarations come first, and then the clauses.
-    Wide(u32),
+    /// The problem is such a one, and passes this limit first: that of 4,000 constants, and then that on the numbers in the
+    /// computation of normal forms, none of which may pass 2^127 - 1. Its item, counted from 1 over the declarations and then
+    /// the clauses, is the first clause with such an atom.
+    Limit(Limit),
     /// Memory was wanting.
     Memory,
 }
@@ -104,9 +103,8 @@ fn unfinished(p: &Problem, g: &Ground, error: SearchErr) -> Solved
 
 /// Decides a problem by a search with at most so many splits and leaves.
 ///
-/// `Other` comes exactly where the problem isn't one over constants of sort idx and num without functions and variables,
-/// `ManyNames` exactly where it is one with more than 4,000 constants, and `Wide` exactly where it is one with at most as
-/// many and a number of a normal form is too wide. Every other problem has a verdict or a strain, unless memory is
+/// `Other` comes exactly where the problem isn't one over constants of sort idx and num without functions and variables, and
+/// `Limit` exactly where it is one that passes a limit. Every other problem has a verdict or a strain, unless memory is
 /// wanting.
 ///
 /// It asks for at least one split or leaf, fewer than 2^28 declarations, at most 2,000 clauses, and a light problem: the
@@ -119,11 +117,10 @@ pub fn solve(alloc: Global, p: &Problem, most: u64) -> Solved
     ensures { SolvedAs p.now most result }
 {
     match ground(alloc, p) {
-        GroundRead::Other => Solved::Other,
-        GroundRead::ManyNames => Solved::ManyNames,
-        GroundRead::Wide(item) => Solved::Wide(item),
-        GroundRead::Memory => Solved::Memory,
-        GroundRead::Read(g) => match search(alloc, &g, most, false) {
+        Err(GroundErr::Limit(limit)) => Solved::Limit(limit),
+        Err(GroundErr::Memory) => Solved::Memory,
+        Ok(None) => Solved::Other,
+        Ok(Some(g)) => match search(alloc, &g, most, false) {
             Ok(found) => verdict(alloc, p, &g, most, found),
             Err(error) => unfinished(p, &g, error),
         },

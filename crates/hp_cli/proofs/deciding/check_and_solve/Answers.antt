@@ -19,7 +19,7 @@ pub returns-in_ok-limit-in-Some : goal.returns-in_ok-limit-in-Some
 returns-in_ok-limit-in-Some c = too_many (record {
   problem = c.args.problem.now;
   sorted = record { read = c.requires.read; sorted = search rules };
-  limit_of = c.in-Some.limit;
+  passed_limit = c.in-Some.limit;
   cause = search rules;
   written = c.in_ok-limit-in-Some.ensures;
 })

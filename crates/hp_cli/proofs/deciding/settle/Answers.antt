@@ -1,6 +1,6 @@
 use Rattle.std.proofs.Common.{arith}
-use Rattle.hp_cli.specs.Answer.{other_form, out_of_nodes, satisfiable, strained, unsatisfiable}
-use Rattle.hp_cli.proofs.Decisions.{few_items, in_scope, is_light, no_const_problem, too_many_names, too_wide}
+use Rattle.hp_cli.specs.Answer.{limited, other_form, out_of_nodes, satisfiable, strained, unsatisfiable}
+use Rattle.hp_cli.proofs.Decisions.{few_items, in_scope, is_light, const_problem, no_const_problem}
 use Rattle.hp_cli.proofs.OneLine.{names_on_one_line}
 use Rattle.hp_cli.proofs.deciding.settle.Goals as goal
 
@@ -18,11 +18,15 @@ returns-in_ok-not_built-in-Other c = other_form (record {
   written = c.in_ok-not_built-in-Other.ensures;
 })
 
-pub returns-in-ManyNames : goal.returns-in-ManyNames
-returns-in-ManyNames c = too_many_names c.args.most c.args.bytes.now c.args.problem.now c.requires.counted c.in-ManyNames.ensures.0 c.in-ManyNames.ensures.1 c.many_names.result c.many_names.ensures
-
-pub returns-in-Wide : goal.returns-in-Wide
-returns-in-Wide c = too_wide c.args.most c.args.bytes.now c.args.problem.now c.in-Wide.item c.requires.counted c.in-Wide.ensures c.wide_number.result c.wide_number.ensures
+pub returns-in_ok-limit-in-Limit : goal.returns-in_ok-limit-in-Limit
+returns-in_ok-limit-in-Limit c = limited (record {
+  problem = c.args.problem.now;
+  counted = c.requires.counted;
+  built = const_problem c.args.bytes.now c.args.problem.now c.requires.counted c.in-Limit.ensures.0;
+  passed_limit = c.in-Limit.limit;
+  cause = c.in-Limit.ensures.1;
+  written = c.in_ok-limit-in-Limit.ensures;
+})
 
 pub returns-in_ok-overflow_text-in-Strained : goal.returns-in_ok-overflow_text-in-Strained
 returns-in_ok-overflow_text-in-Strained c = strained (record {
