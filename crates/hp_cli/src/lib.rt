@@ -6,8 +6,6 @@ mod deciding;
 mod laws;
 mod refusals;
 mod running;
-#[cfg(test)]
-mod tests;
 mod transfer;
 mod words;
 
