@@ -5,12 +5,30 @@
 #[cfg(test)]
 mod asking;
 #[cfg(test)]
+mod bounds;
+#[cfg(test)]
+mod evidence;
+#[cfg(test)]
 mod forms;
+#[cfg(test)]
+mod leaves;
 #[cfg(test)]
 mod limits;
 #[cfg(test)]
+mod literals;
+#[cfg(test)]
+mod numbers;
+#[cfg(test)]
+mod rows;
+#[cfg(test)]
 mod runs;
 #[cfg(test)]
+mod searches;
+#[cfg(test)]
 mod streams;
+#[cfg(test)]
+mod tokens;
+#[cfg(test)]
+mod trees;
 #[cfg(test)]
 mod verdicts;

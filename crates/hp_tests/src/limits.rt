@@ -153,6 +153,20 @@ fn rising(alloc: Global, count: u32, last: &str) -> Result<String, AllocError> {
     Ok(text)
 }
 
+/// So many fractions, each below 0: one descent over all would take millions of passes.
+fn apart(alloc: Global, count: u32, last: &str) -> Result<String, AllocError> {
+    let mut text = String::from_str(alloc, "const c0")?;
+    for at in 1..count {
+        text.push_str(format!(in alloc; ", c{at}")?.as_str())?;
+    }
+    text.push_str(": num;")?;
+    for at in 0..count {
+        text.push_str(format!(in alloc; "query c{at} < 0;")?.as_str())?;
+    }
+    text.push_str(last)?;
+    Ok(text)
+}
+
 #[test]
 fn many_bounds(rt: HostRuntime) -> Result<(), Fail> {
     let alloc = rt.alloc();
@@ -161,6 +175,8 @@ fn many_bounds(rt: HostRuntime) -> Result<(), Fail> {
         (ring(alloc, 1_898)?, 20),
         (rising(alloc, 40, "")?, 10),
         (rising(alloc, 40, "query c39 < c0;")?, 20),
+        (apart(alloc, 24, "")?, 10),
+        (apart(alloc, 24, "query 0 < c6;")?, 20),
     ];
     for (text, status) in cases {
         let (found, _) = answer(rt.alloc(), "solve", text.as_bytes())?;
