@@ -2,8 +2,6 @@
 #![tactic(auto)]
 
 mod structure;
-#[cfg(test)]
-mod tests;
 mod writing;
 
 pub use structure::{ConstValue, Row, Structure, Table};
