@@ -18,6 +18,3 @@ mod tableau;
 mod values;
 
 pub use deciding::decide;
-
-#[cfg(test)]
-mod tests;
