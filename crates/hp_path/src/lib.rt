@@ -14,6 +14,3 @@ mod rows;
 pub use built::are_built;
 pub use deciding::{Decision, decide};
 pub use quick::{Quick, decide_quickly};
-
-#[cfg(test)]
-mod tests;
