@@ -15,8 +15,6 @@ mod state;
 mod stop;
 mod symbol;
 mod term;
-#[cfg(test)]
-mod tests;
 mod transcript;
 
 pub use fault::ReadErr;
