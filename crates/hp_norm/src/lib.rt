@@ -9,6 +9,3 @@ mod laws;
 pub use atoms::{Side, Step, is_index_atom, literals, negated, taken};
 pub use hp_names::NameIndex;
 pub use laws::literals_are_true_with_atoms;
-
-#[cfg(test)]
-mod tests;
