@@ -1,7 +1,6 @@
-#!/usr/bin/env python3
 """Runs a command, as `rt ci`, and prints how long each crate took: a table of minutes for docs/BENCHMARKS.md.
 
-    benchmarks/gate-times.py rt ci > gate.md
+    python3 benchmarks/gate-times.py rt ci > gate.md
 
 What the command writes goes to standard error. The log of `rt ci` says when a crate is done and not when it was begun,
 so the processes of the command are looked at each second: those of the prover have the crate's name among their words,

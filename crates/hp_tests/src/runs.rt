@@ -1,6 +1,6 @@
 //! Runs whose status and output the definitions determine.
 
-use crate::asking::answer;
+use crate::asking::{Faults, answer_in_pieces};
 use std::test::Fail;
 
 const USAGE: &str =
@@ -24,8 +24,16 @@ const USAGES: [Run; 9] = [
     ("solve --nodes 1000000", "", 10, EMPTY),
 ];
 
+/// A controller of trains, whose functions aren't decided yet, and the same without the end of its last clause.
+const TRAINS: &str =
+    "const m, b, k: idx;\nfun s(num): num level 1;\nfun p(idx): num level 2;\nfun q(idx): num level 2;\nclause [x:num] x <= 100 -> s(x) <= 20;\nclause [x:num] x > 100 -> s(x) <= 40;\nclause [i:idx, j:idx] i <= j -> p(j) <= p(i);\nclause [i:idx] m <= i & i <= k -> q(i) <= p(i) + s(p(i));\nclause [i:idx] m <= i & i <= k -> p(i) <= q(i);\nquery m <= b;\nquery b <= k;\nquery p(m) - p(b) >= 40;\nquery q(k) > q(m);\n";
+
+const TRAINS_CUT: &str =
+    "const m, b, k: idx;\nfun s(num): num level 1;\nfun p(idx): num level 2;\nfun q(idx): num level 2;\nclause [x:num] x <= 100 -> s(x) <= 20;\nclause [x:num] x > 100 -> s(x) <= 40;\nclause [i:idx, j:idx] i <= j -> p(j) <= p(i);\nclause [i:idx] m <= i & i <= k -> q(i) <= p(i) + s(p(i));\nclause [i:idx] m <= i & i <= k -> p(i) <= q(i);\nquery m <= b;\nquery b <= k;\nquery p(m) - p(b) >= 40;\nquery q(k) > q(m)";
+
 /// Faults of spelling with their places.
-const FAULTS: [Run; 16] = [
+const FAULTS: [Run; 17] = [
+    ("solve", TRAINS_CUT, 5, "syntax 394\n"),
     ("solve", "const c: num;\nquery c < ", 5, "syntax 24\n"),
     ("solve", "query 1 < 0; é", 5, "syntax 13\n"),
     ("solve", "# é\n", 10, EMPTY),
@@ -60,7 +68,8 @@ const FAULTS: [Run; 16] = [
 ];
 
 /// Names and sorts, limits of the text, and forms that aren't decided yet, the first cause in their order.
-const REFUSALS: [Run; 18] = [
+const REFUSALS: [Run; 19] = [
+    ("solve", TRAINS, 13, "not built\n"),
     ("solve", "const c: num; const c: idx;", 6, "sort 2 twice\n"),
     ("solve", "query c < 0;", 6, "sort 1 unknown\n"),
     ("solve", "fun f(num): num level 17;", 6, "sort 1 level\n"),
@@ -141,8 +150,12 @@ const REFUSALS: [Run; 18] = [
     ),
 ];
 
+const TRAINS_PRINTED: &str =
+    "profile 1;\nconst m: idx;\nconst b: idx;\nconst k: idx;\nfun s(num): num level 1;\nfun p(idx): num level 2;\nfun q(idx): num level 2;\nclause [x:num] x <= 100 -> s(x) <= 20;\nclause [x:num] x > 100 -> s(x) <= 40;\nclause [i:idx, j:idx] i <= j -> p(j) <= p(i);\nclause [i:idx] m <= i & i <= k -> q(i) <= p(i) + s(p(i));\nclause [i:idx] m <= i & i <= k -> p(i) <= q(i);\nquery m <= b;\nquery b <= k;\nquery p(m) - p(b) >= 40;\nquery q(k) > q(m);\n";
+
 /// Printed forms of declarations and clauses.
-const PRINTED: [Run; 5] = [
+const PRINTED: [Run; 6] = [
+    ("print", TRAINS, 0, TRAINS_PRINTED),
     ("print", "", 0, "profile 1;\n"),
     (
         "print",
@@ -229,14 +242,22 @@ const VERDICTS: [Run; 10] = [
     ),
 ];
 
+/// Each run once with ample room, and over streams that pass on at most 1 or 7 bytes in a call.
 #[test]
 fn runs_with_one_answer(rt: HostRuntime) -> Result<(), Fail> {
     let tables: [&[Run]; 5] = [&USAGES, &FAULTS, &REFUSALS, &PRINTED, &VERDICTS];
     for table in tables {
         for (line, text, status, wanted) in table {
-            let (found, written) = answer(rt.alloc(), line, text.as_bytes())?;
-            assert_eq!(rt; found, *status, "{line} on {text}");
-            assert_eq!(rt; written.as_slice(), wanted.as_bytes(), "{line} on {text}");
+            for piece in [1, 7, 65_536] {
+                let faults = Faults {
+                    piece,
+                    read: 0,
+                    write: 0,
+                };
+                let (found, written) = answer_in_pieces(rt.alloc(), line, text.as_bytes(), faults)?;
+                assert_eq!(rt; found, *status, "{line} on {text}");
+                assert_eq!(rt; written.as_slice(), wanted.as_bytes(), "{line} on {text}");
+            }
         }
     }
     Ok(())

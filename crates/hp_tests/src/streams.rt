@@ -1,50 +1,11 @@
 //! Sources and sinks: what they give and take, and runs over short and failing ones.
 
-ghost use Rattle.std.specs.Prelude.{None};
-
-use crate::asking::words;
-use hp_cli::run;
+use crate::asking::{Faults, answer_in_pieces};
 use hp_io::{
     Failed, MemorySink, MemorySource, Sink, Source, SteadySink, SteadySource, StreamSink,
     StreamSource, WriteErr,
 };
 use std::test::Fail;
-
-/// A source that gives at most so many bytes in a call.
-#[derive(Drop)]
-struct Drops {
-    piece: usize,
-    inner: MemorySource,
-}
-
-impl Source for Drops {
-    ghost left = { λ s. None };
-
-    ghost faults = { λ s. s.inner.faults };
-
-    fn read(&mut self, buf: &mut [u8]) -> Result<usize, Failed> {
-        let room = buf.len().min(self.piece);
-        self.inner.read(&mut buf[..room])
-    }
-}
-
-/// A sink that takes at most so many bytes in a call, and at least one.
-#[derive(Drop)]
-struct Sips {
-    piece: usize,
-    inner: MemorySink,
-}
-
-impl Sink for Sips {
-    ghost written = { λ s. None };
-
-    ghost faults = { λ s. s.inner.faults };
-
-    fn write(&mut self, bytes: &[u8]) -> Result<usize, WriteErr> {
-        let some = bytes.len().min(self.piece.max(1));
-        self.inner.write(&bytes[..some])
-    }
-}
 
 /// Words, a text, the bytes of a call, the read that fails, the write that fails, the status, and all that is written.
 /// Calls are counted from 1, and none fails where the number is 0.
@@ -80,19 +41,10 @@ const FAULTY: [Faulty; 12] = [
 #[test]
 fn short_and_failing_streams(rt: HostRuntime) -> Result<(), Fail> {
     for (line, text, piece, read, write, status, wanted) in FAULTY {
-        let words = words(rt.alloc(), line)?;
-        let bytes = text.as_bytes().to_vec(rt.alloc())?;
-        let mut source = Drops {
-            piece,
-            inner: MemorySource::new(bytes, [read].to_vec(rt.alloc())?),
-        };
-        let mut sink = Sips {
-            piece,
-            inner: MemorySink::new(rt.alloc(), [write].to_vec(rt.alloc())?),
-        };
-        let found = run(rt.alloc(), words.as_slice(), &mut source, &mut sink);
+        let faults = Faults { piece, read, write };
+        let (found, written) = answer_in_pieces(rt.alloc(), line, text.as_bytes(), faults)?;
         assert_eq!(rt; found, status, "{line} on {text}");
-        assert_eq!(rt; sink.inner.bytes(), wanted.as_bytes(), "{line} on {text}");
+        assert_eq!(rt; written.as_slice(), wanted.as_bytes(), "{line} on {text}");
     }
     Ok(())
 }

@@ -74,7 +74,12 @@ fn verdicts_with_several_texts(rt: HostRuntime) -> Result<(), Fail> {
 /// A text, the status, and the front of what is written.
 type Front = (&'static str, u8, &'static str);
 
-const FRONTS: [Front; 28] = [
+const FRONTS: [Front; 29] = [
+    (
+        "const i: idx;\nconst j: idx;\nquery i <= j - 1;\nquery j <= i - 1;\n",
+        20,
+        "unsatisfiable\nline 1 clause 1: i - j <= -1\nline 2 clause 2: j - i <= -1\nsplit ",
+    ),
     (
         "query 1 < 0;",
         20,
@@ -167,7 +172,6 @@ const FRONTS: [Front; 28] = [
         10,
         "",
     ),
-    // the inner product of a clause with 2 literals and one with 1: 6 nodes and 5 are enough for these
     (
         "const i, j: idx; query i < j | j < i | i = j; query i != j; query j <= i; query i <= j;",
         20,
