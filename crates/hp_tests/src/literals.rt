@@ -78,7 +78,8 @@ fn asked_simplex(alloc: Global, sides: &[Sides]) -> Result<NumAnswer, DescentErr
 /// The rows of the chain and then the values, or the shares, of the descent's answer.
 fn descended(alloc: Global, sides: &[Sides]) -> Result<List<i128>, AllocError> {
     let mut numbers = List::new(alloc);
-    match asked(alloc, sides) {
+    let answer = asked(alloc, sides);
+    match &answer {
         Ok(ChainAnswer::Point { chain, values }) => {
             for row in chain.as_slice() {
                 numbers.push(i128::from(*row))?;
@@ -94,7 +95,8 @@ fn descended(alloc: Global, sides: &[Sides]) -> Result<List<i128>, AllocError> {
 /// The values or shares of the simplex's answer.
 fn pivoted(alloc: Global, sides: &[Sides]) -> Result<List<i128>, AllocError> {
     let mut numbers = List::new(alloc);
-    match asked_simplex(alloc, sides) {
+    let answer = asked_simplex(alloc, sides);
+    match &answer {
         Ok(NumAnswer::Point(values)) => push_values(&mut numbers, values.as_slice())?,
         Ok(NumAnswer::Farkas(shares)) => push_shares(&mut numbers, shares.as_slice())?,
         Err(_) => {}

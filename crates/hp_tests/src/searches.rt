@@ -8,7 +8,7 @@ use hp_ast::Sort;
 use hp_base::{
     Choice, Ground, IdxLit, Line, Lit, Name, Names, NumLit, Origin, Part, Rel, Valuation,
 };
-use hp_descent::{At, DescentErr, Form, Place};
+use hp_descent::{At, DescentErr, Form, Place, Strain};
 use hp_leaf::LeafProof;
 use hp_num::{List, Text};
 use hp_path::{Decision, Quick, are_built, decide, decide_quickly};
@@ -131,9 +131,10 @@ fn push_leaf(numbers: &mut List<i128>, proof: &LeafProof) -> Result<(), AllocErr
 /// Nothing where there is no decision.
 fn decision_numbers(alloc: Global, sides: &[Side]) -> Result<List<i128>, AllocError> {
     let mut numbers = List::new(alloc);
-    match decided(alloc, sides) {
-        Ok(Decision::Values { values, chain: _ }) => push_values(&mut numbers, &values)?,
-        Ok(Decision::Leaf(proof)) => push_leaf(&mut numbers, &proof)?,
+    let decision = decided(alloc, sides);
+    match &decision {
+        Ok(Decision::Values { values, chain: _ }) => push_values(&mut numbers, values)?,
+        Ok(Decision::Leaf(proof)) => push_leaf(&mut numbers, proof)?,
         Err(_) => {}
     }
     Ok(numbers)
@@ -142,9 +143,10 @@ fn decision_numbers(alloc: Global, sides: &[Side]) -> Result<List<i128>, AllocEr
 /// As `decision_numbers`.
 fn quick_numbers(alloc: Global, sides: &[Side]) -> Result<List<i128>, AllocError> {
     let mut numbers = List::new(alloc);
-    match quickly(alloc, sides)? {
-        Quick::Values(values) => push_values(&mut numbers, &values)?,
-        Quick::Leaf(proof) => push_leaf(&mut numbers, &proof)?,
+    let decision = quickly(alloc, sides)?;
+    match &decision {
+        Quick::Values(values) => push_values(&mut numbers, values)?,
+        Quick::Leaf(proof) => push_leaf(&mut numbers, proof)?,
         Quick::Unknown => {}
     }
     Ok(numbers)
@@ -317,9 +319,10 @@ fn numbers_of(alloc: Global, solution: &Solution) -> Result<List<i128>, AllocErr
 fn an_exact_model_has_its_chain(rt: HostRuntime) -> Result<(), Fail> {
     // c - d < 0 is false at 0, and is split: path 1.1, chain 2 and 1, i = 0, j = 0, c = -1, d = 0
     let g = problem(rt.alloc(), &[&[BELOW]])?;
-    match found(rt.alloc(), &g, 10, true) {
+    let found = found(rt.alloc(), &g, 10, true);
+    match &found {
         Some(Ok(Found::Model(solution))) => {
-            let numbers = numbers_of(rt.alloc(), &solution)?;
+            let numbers = numbers_of(rt.alloc(), solution)?;
             let wanted = [1, 1, 2, 1, 0, 1, 0, 1, -1, 1, 0, 1];
             assert_eq!(rt; numbers.as_slice(), wanted.as_slice());
         }
@@ -328,20 +331,24 @@ fn an_exact_model_has_its_chain(rt: HostRuntime) -> Result<(), Fail> {
     Ok(())
 }
 
+/// Whether this is a strain of the sum of line 2's literal, where line 1 is chosen.
+fn is_strain_of_sum(strain: &Strain) -> bool {
+    let Place::Path(path) = &strain.place;
+    path.len() == 1
+        && *path.get(0) == Choice { line: 1, lit: 1 }
+        && strain.row.form == Form::Sum
+        && strain.row.at == At::Literal { line: 2, lit: 1 }
+}
+
 #[test]
 fn a_sum_that_is_too_wide(rt: HostRuntime) -> Result<(), Fail> {
     // c = 2^100 makes the first line true, and there -2^100 c passes 128 bits
     let high = Side::Num(Rel::Eq, 1, 0, LONG);
     let product = Side::Num(Rel::Lt, -LONG, 0, 0);
     let g = problem(rt.alloc(), &[&[high], &[product]])?;
-    match found(rt.alloc(), &g, 10, true) {
-        Some(Err(SearchErr::Strain(strain))) => {
-            let Place::Path(path) = &strain.place;
-            let first = Choice { line: 1, lit: 1 };
-            assert!(rt; path.len() == 1 && *path.get(0) == first);
-            assert!(rt; strain.row.form == Form::Sum);
-            assert!(rt; strain.row.at == At::Literal { line: 2, lit: 1 });
-        }
+    let found = found(rt.alloc(), &g, 10, true);
+    match &found {
+        Some(Err(SearchErr::Strain(strain))) => assert!(rt; is_strain_of_sum(strain)),
         _ => assert!(rt; false),
     }
     Ok(())
