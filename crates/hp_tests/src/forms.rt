@@ -1,6 +1,8 @@
 //! Printed forms, by the rules of the language: literals of atoms in refutations, and parentheses of terms.
 
 use crate::asking::answer;
+use std::alloc::{AllocError, Global};
+use std::process::Abort;
 use std::test::Fail;
 
 /// A sort, an atom over `i` and `j`, its literals in the head, and those in the guard.
@@ -87,22 +89,33 @@ const PLACES: [[&str; 2]; 7] = [
     ["2 * ", ""],
 ];
 
+/// A term in needless parentheses is printed between these two as this text.
+fn expect_printed(
+    rt: &impl Abort,
+    alloc: Global,
+    place: [&str; 2],
+    term: &str,
+    printed: &str,
+) -> Result<(), AllocError> {
+    let [before, behind] = place;
+    let text = format!(in alloc; "query {before}(({term})){behind} = ((0));")?;
+    let wanted = format!(in alloc; "profile 1;\nquery {before}{printed}{behind} = 0;\n")?;
+    let (found, written) = answer(alloc, "print", text.as_bytes())?;
+    assert_eq!(rt; found, 0);
+    assert_eq!(rt; written.as_slice(), wanted.as_bytes());
+    Ok(())
+}
+
 #[test]
 fn parentheses_of_each_term_at_each_place(rt: HostRuntime) -> Result<(), Fail> {
     for [whole, operand, factor] in TERMS {
-        for (place, [before, behind]) in PLACES.into_iter().enumerate() {
-            let term = match place {
+        for (at, place) in PLACES.into_iter().enumerate() {
+            let printed = match at {
                 0..=2 => whole,
                 3..=5 => operand,
                 _ => factor,
             };
-            let text = format!(in rt.alloc(); "query {before}(({whole})){behind} = ((0));")?;
-            let printed = format!(in rt.alloc();
-                "profile 1;\nquery {before}{term}{behind} = 0;\n"
-            )?;
-            let (found, written) = answer(rt.alloc(), "print", text.as_bytes())?;
-            assert_eq!(rt; found, 0, "{text}");
-            assert_eq!(rt; written.as_slice(), printed.as_bytes(), "{text}");
+            expect_printed(&rt, rt.alloc(), place, whole, printed)?;
         }
     }
     Ok(())
@@ -121,7 +134,8 @@ const RELATIONS: [(&str, [bool; 3]); 6] = [
 #[test]
 fn relations_and_guards(rt: HostRuntime) -> Result<(), Fail> {
     for (relation, holds) in RELATIONS {
-        for (at, yes) in holds.into_iter().enumerate() {
+        for at in 0..3 {
+            let yes = holds[at];
             let value = at + 2;
             for sort in ["idx", "num"] {
                 let head = format!(in rt.alloc();

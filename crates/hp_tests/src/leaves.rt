@@ -161,7 +161,7 @@ fn combinations(rt: HostRuntime) -> Result<(), AllocError> {
 }
 
 /// Steps, the numbers of literals that are taken backwards with a minus.
-const CYCLES: [(&[i64], Result<bool, (i128, Op, i128)>); 12] = [
+const CYCLES: [(&[i8], Result<bool, (i128, Op, i128)>); 12] = [
     (&[1, 2], Ok(true)),
     (&[2, 1], Ok(true)),
     (&[1, 5], Ok(false)),
@@ -176,11 +176,11 @@ const CYCLES: [(&[i64], Result<bool, (i128, Op, i128)>); 12] = [
     (&[4, 3], Err((1, Op::Plus, LARGEST))),
 ];
 
-fn steps(alloc: Global, numbers: &[i64]) -> Result<List<Step>, AllocError> {
+fn steps(alloc: Global, numbers: &[i8]) -> Result<List<Step>, AllocError> {
     let mut steps = List::new(alloc);
     for number in numbers {
         steps.push(Step {
-            lit: number.unsigned_abs() as u32,
+            lit: u32::from(number.unsigned_abs()),
             forward: *number >= 0,
         })?;
     }

@@ -128,11 +128,11 @@ fn many_constants(rt: HostRuntime) -> Result<(), Fail> {
 /// Bounds that lead from each of 1,900 index constants down to the next, and from the last one back up.
 fn ring(alloc: Global, back: u32) -> Result<String, AllocError> {
     let mut text = String::from_str(alloc, "const c0")?;
-    for at in 1..1_900 {
+    for at in 1..1_900u32 {
         text.push_str(format!(in alloc; ", c{at}")?.as_str())?;
     }
     text.push_str(": idx;")?;
-    for at in 1..1_900 {
+    for at in 1..1_900u32 {
         text.push_str(format!(in alloc; "query c{at} <= c{} - 1;", at - 1)?.as_str())?;
     }
     text.push_str(format!(in alloc; "query c0 <= c1899 + {back};")?.as_str())?;

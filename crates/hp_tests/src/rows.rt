@@ -1,6 +1,6 @@
 //! What the descent over rows answers, with ample memory, to rows whose answers are known by hand.
 
-use hp_num::{Frac, List, Op, Whole};
+use hp_num::{Frac, List, Whole};
 use hp_rows::{Answer, Located, Place, Row, Strain, are_wide, descend, locate, values};
 use std::alloc::{AllocError, Global};
 use std::test::Fail;
@@ -122,25 +122,6 @@ fn answers(rt: HostRuntime) -> Result<(), Fail> {
         let answer = asked(rt.alloc(), width, sides)?;
         let numbers = numbers_of(rt.alloc(), &answer)?;
         assert_eq!(rt; numbers.as_slice(), wanted);
-    }
-    Ok(())
-}
-
-#[test]
-fn operations_of_strains(rt: HostRuntime) -> Result<(), Fail> {
-    let (width, sides, _) = CASES[3];
-    match asked(rt.alloc(), width, sides)? {
-        Answer::Strain(strain) => {
-            assert!(rt; matches!(strain.place, Place::Line(0)) && strain.wide.op == Op::Times);
-        }
-        _ => assert!(rt; false),
-    }
-    let (width, sides, _) = CASES[4];
-    match asked(rt.alloc(), width, sides)? {
-        Answer::Strain(strain) => {
-            assert!(rt; matches!(strain.place, Place::Sum(2)) && strain.wide.op == Op::Times);
-        }
-        _ => assert!(rt; false),
     }
     Ok(())
 }

@@ -131,10 +131,21 @@ fn faults_come_again(rt: HostRuntime) {
     }
 }
 
+/// The value of the numeral at the front.
+fn value(text: &[u8]) -> Option<i128> {
+    let token = Cursor::new(text).next().ok()?;
+    if token.kind == Kind::Numeral {
+        Some(numeral(&text[token.start..token.end]))
+    } else {
+        None
+    }
+}
+
 #[test]
 fn numbers_are_read_and_printed(rt: HostRuntime) -> Result<(), Fail> {
-    assert_eq!(rt; numeral(b"123456789012345678"), 123456789012345678);
-    assert_eq!(rt; numeral(b"007"), 7);
+    assert_eq!(rt; value(b"123456789012345678,"), Some(123456789012345678));
+    assert_eq!(rt; value(b" 007"), Some(7));
+    assert_eq!(rt; value(b"x"), None);
     let mut out = Text::new(rt.alloc());
     for n in [0, 7, -1, 10, -305, i128::MAX, i128::MIN] {
         put_whole(&mut out, n)?;
