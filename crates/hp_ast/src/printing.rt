@@ -399,6 +399,3 @@ fn sort_name(sort: Sort) -> &'static [u8]
         Sort::Ptr => b"ptr",
     }
 }
-
-#[cfg(test)]
-mod tests;

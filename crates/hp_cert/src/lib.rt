@@ -13,6 +13,3 @@ pub use ground::{def_text, line_text};
 pub use listing::entries;
 pub use overflow::overflow_text;
 pub use refutation::{Entry, Refutation, body, write};
-
-#[cfg(test)]
-mod tests;

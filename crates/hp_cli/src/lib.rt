@@ -7,8 +7,6 @@ mod laws;
 mod limits;
 mod refusals;
 mod running;
-#[cfg(test)]
-mod tests;
 mod transfer;
 mod words;
 

@@ -14,8 +14,6 @@ mod fit;
 mod rows;
 mod shares;
 mod sums;
-#[cfg(test)]
-mod tests;
 
 pub use answer::{At, ChainAnswer, DescentErr, Form, NumAnswer, Place, RowStrain, Strain};
 pub use chained::value_at;

@@ -14,6 +14,3 @@ mod outcome;
 mod parents;
 
 pub use answer::{DiffAnswer, decide};
-
-#[cfg(test)]
-mod tests;

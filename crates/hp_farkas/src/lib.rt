@@ -23,6 +23,3 @@ pub fn names_in_order()
 pub fn one_product_each()
     ensures { OneProductEach }
 {}
-
-#[cfg(test)]
-mod tests;

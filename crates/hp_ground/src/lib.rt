@@ -10,6 +10,3 @@ mod lines;
 
 pub use grounding::ground;
 pub use laws::{structures_give_values, values_give_a_structure};
-
-#[cfg(test)]
-mod tests;

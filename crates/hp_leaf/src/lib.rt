@@ -36,6 +36,3 @@ pub fn closed_is_nested()
 pub fn renumbering_keeps_leaves()
     ensures { RenumberingKeepsLeaves }
 {}
-
-#[cfg(test)]
-mod tests;

@@ -13,6 +13,3 @@ mod wholes;
 
 pub use atoms::literals;
 pub use laws::{literals_are_true_with_atoms, terms_have_form_values};
-
-#[cfg(test)]
-mod tests;

@@ -4,8 +4,6 @@
 mod laws;
 mod sides;
 mod structure;
-#[cfg(test)]
-mod tests;
 mod writing;
 
 pub use laws::plain_clauses_hold;

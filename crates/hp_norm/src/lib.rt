@@ -8,6 +8,3 @@ mod laws;
 
 pub use atoms::{is_index_atom, literals};
 pub use laws::{literals_are_true_with_atoms, terms_have_form_values};
-
-#[cfg(test)]
-mod tests;

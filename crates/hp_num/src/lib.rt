@@ -5,8 +5,6 @@
 
 mod frac;
 mod list;
-#[cfg(test)]
-mod tests;
 mod text;
 mod whole;
 mod wide;

@@ -16,6 +16,3 @@ pub use belonging::component_of_last;
 pub use built::are_built;
 pub use deciding::{Decision, decide};
 pub use quick::{Quick, decide_patiently, decide_quickly};
-
-#[cfg(test)]
-mod tests;

@@ -6,8 +6,6 @@ mod laws;
 mod lines;
 mod reader;
 mod stage;
-#[cfg(test)]
-mod tests;
 mod transcript;
 
 pub use laws::{spells_one_problem, spells_or_has_fault, spells_without_fault};

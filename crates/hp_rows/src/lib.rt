@@ -14,8 +14,6 @@ mod division;
 mod fractions;
 mod line;
 mod row;
-#[cfg(test)]
-mod tests;
 
 pub use answer::{Answer, Located, Place, Strain};
 pub use chain::locate;

@@ -12,6 +12,3 @@ mod singles;
 mod truth;
 
 pub use searching::{Found, SearchErr, Solution, search};
-
-#[cfg(test)]
-mod tests;

@@ -19,6 +19,3 @@ mod values;
 
 pub use checks::Attempt;
 pub use deciding::{attempt, decide};
-
-#[cfg(test)]
-mod tests;

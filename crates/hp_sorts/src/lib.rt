@@ -17,6 +17,3 @@ pub use checking::check;
 pub use counting::counts;
 pub use fault::SortErr;
 pub use symbols::Symbols;
-
-#[cfg(test)]
-mod tests;

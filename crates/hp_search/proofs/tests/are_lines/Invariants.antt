@@ -1,9 +1,0 @@
-use Rattle.std.proofs.Common.{take}
-use Rattle.std.specs.List.{All}
-use Rattle.hp_base.specs.Names.{sorts}
-use Rattle.hp_base.specs.declared.line.Line.{Line}
-use Rattle.hp_search.specs.Lines.{AreBuilt}
-use Rattle.hp_search.proofs.tests.are_lines.Given as goal
-
-abbrev pub invariant-loop-line : goal.invariant-loop-line
-invariant-loop-line l = All (λ (line : Line). AreBuilt (sorts l.names) line.lits) (take l.line-index l.lines)
