@@ -6,10 +6,10 @@ use Rattle.std.proofs.lemmas.List.Folds.{flat_map-map}
 use Rattle.hp_math.specs.Rational.{ℚ}
 use Rattle.hp_ast.specs.declared.printing.Place.{Place}
 use Rattle.hp_ast.specs.declared.printing.Place.TheVariants.{Whole, Operand, Factor}
-use Rattle.hp_ast.specs.declared.term.Term.{Term, fold-roll-Term, roll-Term, map-Term}
-use Rattle.hp_ast.specs.declared.term.Term.TheOpen.{Term-F}
-use Rattle.hp_ast.specs.declared.term.Term.TheViews.{Apply, Add, Sub, Neg, Scale}
-use Rattle.hp_ast.specs.declared.term.Term.TheVariants.{rolls-Apply, rolls-Add, rolls-Sub, rolls-Neg, rolls-Scale}
+use Rattle.hp_tree.specs.declared.term.Term.{Term, fold-roll-Term, roll-Term, map-Term}
+use Rattle.hp_tree.specs.declared.term.Term.TheOpen.{Term-F}
+use Rattle.hp_tree.specs.declared.term.Term.TheViews.{Apply, Add, Sub, Neg, Scale}
+use Rattle.hp_tree.specs.declared.term.Term.TheVariants.{rolls-Apply, rolls-Add, rolls-Sub, rolls-Neg, rolls-Scale}
 use Rattle.hp_ast.specs.Printing.{text_at, text_step, term_text, frac_text, enclosed, encloses_sum, encloses_product}
 
 -- the text of a layer of terms

@@ -1,7 +1,7 @@
 -- The limits that a ground problem may pass.
 use Rattle.std.specs.Prelude.{ℕ}
-use Rattle.hp_ast.specs.declared.limit.Limit.{Limit}
-use Rattle.hp_ast.specs.declared.limit.Which.TheVariants.{Names, Coefficient}
+use Rattle.hp_tree.specs.declared.limit.Limit.{Limit}
+use Rattle.hp_tree.specs.declared.limit.Which.TheVariants.{Names, Coefficient}
 
 -- more names than there may be
 abbrev pub many_names : Limit

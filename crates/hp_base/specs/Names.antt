@@ -1,7 +1,7 @@
 -- The names of a ground problem with their sorts: the constants first, and then the definitions.
 use Rattle.std.specs.Prelude.{ℕ, List, [], ◌∷◌, ◌++◌, map, Option, Some, None, slice_get}
-use Rattle.hp_ast.specs.declared.problem.Sort.{Sort}
-use Rattle.hp_ast.specs.declared.problem.Sort.TheVariants.{Num}
+use Rattle.hp_tree.specs.declared.problem.Sort.{Sort}
+use Rattle.hp_tree.specs.declared.problem.Sort.TheVariants.{Num}
 use Rattle.hp_base.specs.declared.line.Body.{Body}
 use Rattle.hp_base.specs.declared.line.Body.TheVariants.{Apply, Sum}
 use Rattle.hp_base.specs.declared.line.Def.{Def}

@@ -1,8 +1,8 @@
 -- Values of the names' sorts.
 use Rattle.std.specs.Prelude.{◌≡◌, List, [], ◌∷◌, pos, true}
 use Rattle.hp_math.specs.Rational.{ℚ, is_whole, whole, ◌≤ℚ◌}
-use Rattle.hp_ast.specs.declared.problem.Sort.{Sort}
-use Rattle.hp_ast.specs.declared.problem.Sort.TheVariants.{Num, Idx, Ptr}
+use Rattle.hp_tree.specs.declared.problem.Sort.{Sort}
+use Rattle.hp_tree.specs.declared.problem.Sort.TheVariants.{Num, Idx, Ptr}
 use Rattle.hp_base.specs.Truth.{Values}
 
 -- any fraction, a whole number, a whole number from 0

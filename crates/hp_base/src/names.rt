@@ -7,7 +7,7 @@ ghost use Rattle.hp_base.specs.Names.{constant_name, sort_of_body, sorts, with_c
 
 use crate::line::{Body, Def, Line};
 use crate::literal::Name;
-use hp_ast::Sort;
+use hp_tree::Sort;
 use hp_num::{List, Text};
 use std::alloc::{AllocError, Global};
 use std::marker::Model;

@@ -1,5 +1,5 @@
 //! Why a computation over a problem gives nothing.
-use hp_ast::Limit;
+use hp_tree::Limit;
 
 /// A number of the computation has a magnitude above its limit, or memory is short.
 #[derive(Clone, Copy)]

@@ -1,8 +1,8 @@
 -- What was read of a body is spelled.
 use Rattle.std.proofs.Common.{◌≡◌, List, [], ◌∷◌, ◌++◌, Option, Some, None, refl, sym, ap, subst, ◌∙◌, append_assoc, append-nil}
-use Rattle.hp_ast.specs.declared.term.Term.{Term}
-use Rattle.hp_ast.specs.declared.problem.Atom.{Atom}
-use Rattle.hp_ast.specs.declared.problem.Cmp.{Cmp}
+use Rattle.hp_tree.specs.declared.term.Term.{Term}
+use Rattle.hp_tree.specs.declared.problem.Atom.{Atom}
+use Rattle.hp_tree.specs.declared.problem.Cmp.{Cmp}
 use Rattle.hp_text.specs.declared.token.Kind.{Kind}
 use Rattle.hp_text.specs.declared.token.Kind.TheVariants as kinds
 use Rattle.hp_body.specs.declared.state.Front.TheVariants.{Nothing}

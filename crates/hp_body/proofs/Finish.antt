@@ -2,7 +2,7 @@
 use Rattle.std.proofs.Common.{◌≡◌, List, [], ◌∷◌, ◌++◌, Option, Some, None, refl, ap, ◌∙◌}
 use Rattle.std.specs.Prelude.{pos}
 use Rattle.hp_math.specs.Rational.{ratio}
-use Rattle.hp_ast.specs.declared.term.Term.{Term}
+use Rattle.hp_tree.specs.declared.term.Term.{Term}
 use Rattle.hp_text.specs.declared.token.Kind.TheVariants as kinds
 use Rattle.hp_body.specs.declared.state.Mode.{Mode}
 use Rattle.hp_body.specs.declared.state.Mode.TheVariants.{Part, Whole, Over, Ratio, Times, Named, Done}

@@ -1,6 +1,6 @@
 -- What a step in place leaves, against the step of the machine.
 use Rattle.std.specs.Prelude.{◌≡◌, List, Option, Some, None, Result, Ok, Err}
-use Rattle.hp_ast.specs.declared.problem.Atom.{Atom}
+use Rattle.hp_tree.specs.declared.problem.Atom.{Atom}
 use Rattle.hp_body.specs.declared.stop.Stop.{Stop}
 use Rattle.hp_body.specs.declared.state.Mode.{Mode}
 use Rattle.hp_body.specs.declared.state.Frame.{Frame}

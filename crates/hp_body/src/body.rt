@@ -15,7 +15,7 @@ use crate::stack::Stack;
 use crate::state::{Frame, Front, Mode};
 use crate::stop::Stop;
 use crate::term::word;
-use hp_ast::{Atom, Cmp, Term};
+use hp_tree::{Atom, Cmp, Term};
 use hp_grammar::{Symbol, same};
 use hp_num::List;
 use hp_text::Kind;

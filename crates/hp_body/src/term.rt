@@ -9,7 +9,7 @@ use crate::build::call_term;
 use crate::stack::Stack;
 use crate::state::{Frame, Front, Mode};
 use crate::stop::Stop;
-use hp_ast::Term;
+use hp_tree::Term;
 use hp_grammar::same;
 use hp_text::Kind;
 use sqlite_items::Boxed;

@@ -3,8 +3,8 @@
 use Rattle.std.proofs.Common.{◌≡◌, ℕ, ◌+◌, ◌*◌, ◌<◌, ◌≤◌, true, false, List, [], ◌∷◌, ◌++◌, map, Some, refl, sym, ap, subst, ◌∙◌, arith}
 use Rattle.std.specs.Prelude.{max, if◌then◌else◌}
 use Rattle.hp_math.specs.Rational.{ℚ}
-use Rattle.hp_ast.specs.declared.term.Term.{Term, fold-roll-Term}
-use Rattle.hp_ast.specs.declared.term.Term.TheOpen.{Term-F}
+use Rattle.hp_tree.specs.declared.term.Term.{Term, fold-roll-Term}
+use Rattle.hp_tree.specs.declared.term.Term.TheOpen.{Term-F}
 use Rattle.hp_text.specs.declared.token.Kind.TheVariants as kinds
 use Rattle.hp_grammar.specs.declared.symbol.Symbol.{Symbol as Token}
 use Rattle.hp_grammar.specs.declared.symbol.Symbol.TheVariants.{Word as word}

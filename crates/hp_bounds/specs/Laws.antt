@@ -1,6 +1,6 @@
 -- How little a text of some length can spell.
 use Rattle.std.specs.Prelude.{ℕ, ◌+◌, ◌≤◌, List, length}
-use Rattle.hp_ast.specs.declared.problem.Problem.{Problem}
+use Rattle.hp_tree.specs.declared.problem.Problem.{Problem}
 use Rattle.hp_grammar.specs.Spells.{Spells}
 use Rattle.hp_norm.specs.Literals.{IsLight}
 use Rattle.hp_bounds.specs.Depth.{IsShallow}

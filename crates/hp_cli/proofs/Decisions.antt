@@ -1,7 +1,7 @@
 -- What each step of the decision says of the answer.
 use Rattle.std.proofs.Common.{◌≡◌, ◌≢◌, ◌<◌, ◌≤◌, ◌+◌, ◌^◌, ℕ, List, Bool, true, false, cond, length, nat_lt, Option, Some, None, Result, Ok, Err, IfOk, refl, sym, ap, subst, ◌∙◌, arith}
 use Rattle.std.proofs.lemmas.Bool.{ltb-false}
-use Rattle.hp_ast.specs.declared.problem.Problem.{Problem}
+use Rattle.hp_tree.specs.declared.problem.Problem.{Problem}
 use Rattle.hp_bounds.proofs.Bounds as bounds
 use Rattle.hp_ground.specs.Ground.{IsGroundProblem}
 use Rattle.hp_norm.specs.Literals.{IsLight}

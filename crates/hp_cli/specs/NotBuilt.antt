@@ -1,5 +1,5 @@
 -- Which problems are decided so far, by their form.
-use Rattle.hp_ast.specs.declared.problem.Problem.{Problem}
+use Rattle.hp_tree.specs.declared.problem.Problem.{Problem}
 use Rattle.hp_scope.specs.Laws.{IsScopedProblem}
 
 -- it declares constants of sort idx and num alone, no clause has variables, and each atom is of one of these sorts

@@ -1,9 +1,9 @@
 -- The one line that says why a text is refused.
 use Rattle.std.specs.Prelude.{ℕ, List, [], ◌∷◌, ◌++◌, codes}
 use Rattle.std.specs.Fmt.{decimal}
-use Rattle.hp_ast.specs.declared.limit.Limit.{Limit}
-use Rattle.hp_ast.specs.declared.limit.Which.{Which}
-use Rattle.hp_ast.specs.declared.limit.Which.TheVariants.{Input, Bytes, Clauses, Variables, Arguments, Names, Lines, Coefficient}
+use Rattle.hp_tree.specs.declared.limit.Limit.{Limit}
+use Rattle.hp_tree.specs.declared.limit.Which.{Which}
+use Rattle.hp_tree.specs.declared.limit.Which.TheVariants.{Input, Bytes, Clauses, Variables, Arguments, Names, Lines, Coefficient}
 use Rattle.hp_grammar.specs.declared.fault.ReadErr.{ReadErr}
 use Rattle.hp_grammar.specs.declared.fault.ReadErr.TheVariants as reading
 use Rattle.hp_sorts.specs.declared.fault.SortErr.{SortErr}

@@ -1,9 +1,9 @@
 -- What the program says of the bytes of an input.
 use Rattle.std.specs.Prelude.{◌≡◌, ◌≢◌, ℕ, ◌<◌, ◌≤◌, List, ◌++◌, ◌+◌, codes, length, Some, None}
 use Rattle.std.specs.Fmt.{decimal}
-use Rattle.hp_ast.specs.declared.limit.Limit.{Limit}
-use Rattle.hp_ast.specs.declared.limit.Which.TheVariants.{Bytes}
-use Rattle.hp_ast.specs.declared.problem.Problem.{Problem}
+use Rattle.hp_tree.specs.declared.limit.Limit.{Limit}
+use Rattle.hp_tree.specs.declared.limit.Which.TheVariants.{Bytes}
+use Rattle.hp_tree.specs.declared.problem.Problem.{Problem}
 use Rattle.hp_ast.specs.Printing.{problem_text}
 use Rattle.hp_base.specs.declared.names.Ground.{Ground}
 use Rattle.hp_base.specs.Names.{sorts}

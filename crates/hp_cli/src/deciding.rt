@@ -15,7 +15,7 @@ use crate::answer::Status;
 use crate::limits::MOST_BYTES;
 use crate::refusals;
 use crate::words::Task;
-use hp_ast::{Limit, Problem, Which};
+use hp_tree::{Limit, Problem, Which};
 use hp_cert::{Refutation, body, overflow_text, write};
 use hp_grammar::ReadErr;
 use hp_model::{Structure, write_structure};

@@ -4,7 +4,7 @@ ghost use Rattle.std.specs.Prelude.{◌≡◌, ◌<◌, ◌≤◌, ◌⊎◌, If
 ghost use Rattle.std.specs.Io.KnownBytes.{Keeps};
 ghost use Rattle.hp_io.specs.Causes.{Rose};
 ghost use Rattle.hp_cli.specs.declared.answer.Status.{Status};
-ghost use Rattle.hp_ast.specs.declared.problem.Problem.{Problem};
+ghost use Rattle.hp_tree.specs.declared.problem.Problem.{Problem};
 ghost use Rattle.hp_cli.specs.declared.words.Task.{Task};
 ghost use Rattle.hp_cli.specs.Answer.{Answers, code, Fits, IsSettledCode, IsSolving, IsWhole, Stands, Told, Wrote};
 ghost use Rattle.hp_cli.specs.Size.{most_bytes};

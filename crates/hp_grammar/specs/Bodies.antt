@@ -1,9 +1,9 @@
 -- The grammar of atoms and bodies.
 use Rattle.std.specs.Prelude.{if◌then◌else◌, List, [], ◌∷◌, ◌++◌, ◌≡◌, Option, Some, None}
-use Rattle.hp_ast.specs.declared.term.Term.{Term}
-use Rattle.hp_ast.specs.declared.problem.Atom.{Atom}
-use Rattle.hp_ast.specs.declared.problem.Cmp.{Cmp}
-use Rattle.hp_ast.specs.declared.problem.Cmp.TheVariants as relations
+use Rattle.hp_tree.specs.declared.term.Term.{Term}
+use Rattle.hp_tree.specs.declared.problem.Atom.{Atom}
+use Rattle.hp_tree.specs.declared.problem.Cmp.{Cmp}
+use Rattle.hp_tree.specs.declared.problem.Cmp.TheVariants as relations
 use Rattle.hp_text.specs.declared.token.Kind.{Kind}
 use Rattle.hp_text.specs.declared.token.Kind.TheVariants as kinds
 use Rattle.hp_grammar.specs.Token.{Token, word, same}

@@ -1,7 +1,7 @@
 -- The grammar, by productions: these tokens are a term with this tree. No limit on parentheses and signs.
 use Rattle.std.specs.Prelude.{ℕ, ◌<◌, List, [], ◌∷◌, ◌++◌, pos}
 use Rattle.hp_math.specs.Rational.{ℚ, ratio}
-use Rattle.hp_ast.specs.declared.term.Term.{Term}
+use Rattle.hp_tree.specs.declared.term.Term.{Term}
 use Rattle.hp_text.specs.declared.token.Kind.TheVariants.{OpenRound, CloseRound, Comma, Plus, Minus, Star, Slash, Null}
 use Rattle.hp_grammar.specs.Token.{Token, word, name, numeral}
 use Rattle.hp_grammar.specs.Tree.{number_of, null, named, apply, add, sub, neg, scale}

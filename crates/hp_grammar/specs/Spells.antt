@@ -1,6 +1,6 @@
 -- What bytes spell, and what the fault of bytes is that spell nothing.
 use Rattle.std.specs.Prelude.{ℕ, List, [], ◌∷◌, ◌++◌, ◌≡◌, ◌≢◌, ◌⊎◌, length, Ok, Err}
-use Rattle.hp_ast.specs.declared.problem.Problem.{Problem}
+use Rattle.hp_tree.specs.declared.problem.Problem.{Problem}
 use Rattle.hp_text.specs.declared.token.Token.{Token as Placed}
 use Rattle.hp_text.specs.declared.token.TokenErr.{TokenErr}
 use Rattle.hp_text.specs.declared.token.TokenErr.TheVariants as faults

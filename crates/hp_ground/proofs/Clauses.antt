@@ -6,11 +6,11 @@ use Rattle.std.proofs.lemmas.Bool.{and_parts}
 use Rattle.std.proofs.lemmas.List.Elements.{All-head, All-tail}
 use Rattle.hp_math.specs.Rational.{is_whole}
 use Rattle.hp_num.proofs.Given.{came}
-use Rattle.hp_ast.specs.declared.problem.Sort.{Sort}
-use Rattle.hp_ast.specs.declared.problem.Sort.TheVariants as sort
-use Rattle.hp_ast.specs.declared.problem.Atom.{Atom}
-use Rattle.hp_ast.specs.declared.problem.Clause.{Clause}
-use Rattle.hp_ast.specs.declared.term.Term.{Term}
+use Rattle.hp_tree.specs.declared.problem.Sort.{Sort}
+use Rattle.hp_tree.specs.declared.problem.Sort.TheVariants as sort
+use Rattle.hp_tree.specs.declared.problem.Atom.{Atom}
+use Rattle.hp_tree.specs.declared.problem.Clause.{Clause}
+use Rattle.hp_tree.specs.declared.term.Term.{Term}
 use Rattle.hp_base.specs.declared.literal.Name.{Name}
 use Rattle.hp_base.specs.declared.literal.Lit.{Lit}
 use Rattle.hp_base.specs.Sorts.{AreOfSorts, IsOfSort}

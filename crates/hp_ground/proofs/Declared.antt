@@ -5,10 +5,10 @@ use Rattle.std.specs.List.{list_any, All}
 use Rattle.std.proofs.lemmas.List.{drop_more, take_more, get_or-map, length-map, map-append}
 use Rattle.hp_names.specs.Names.{is_among, AreDistinct}
 use Rattle.std.proofs.lemmas.List.Elements.{All-nil, All-cons, All-head, All-tail, All-append}
-use Rattle.hp_ast.specs.declared.problem.Decl.{Decl}
-use Rattle.hp_ast.specs.declared.problem.Decl.TheVariants.{Const, Fun}
-use Rattle.hp_ast.specs.declared.problem.Sort.{Sort}
-use Rattle.hp_ast.specs.declared.problem.Sort.TheVariants.{Num}
+use Rattle.hp_tree.specs.declared.problem.Decl.{Decl}
+use Rattle.hp_tree.specs.declared.problem.Decl.TheVariants.{Const, Fun}
+use Rattle.hp_tree.specs.declared.problem.Sort.{Sort}
+use Rattle.hp_tree.specs.declared.problem.Sort.TheVariants.{Num}
 use Rattle.hp_model.specs.WellFormed.{Declared, constants}
 use Rattle.hp_ground.specs.declared.consts.ConstsRead.TheVariants.{Read}
 use Rattle.hp_ground.specs.Ground.{IsGroundDecl, consts_of, decl_name, declared_name, declared_sort}

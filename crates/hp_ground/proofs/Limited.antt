@@ -3,9 +3,9 @@ use Rattle.std.proofs.Common.{◌≡◌, ◌∙◌, ap, ℕ, ◌+◌, ◌<◌, �
 use Rattle.std.specs.Prelude.{Ok, Err, Bool, true, false, nat_lt, if◌then◌else◌}
 use Rattle.std.proofs.lemmas.Bool.{lt-ltb, le-ltb}
 use Rattle.hp_num.specs.Wide.{◌>>=◌}
-use Rattle.hp_ast.specs.declared.limit.Limit.{Limit}
-use Rattle.hp_ast.specs.declared.problem.Clause.{Clause}
-use Rattle.hp_ast.specs.declared.problem.Problem.{Problem}
+use Rattle.hp_tree.specs.declared.limit.Limit.{Limit}
+use Rattle.hp_tree.specs.declared.problem.Clause.{Clause}
+use Rattle.hp_tree.specs.declared.problem.Problem.{Problem}
 use Rattle.hp_base.specs.declared.literal.Lit.{Lit}
 use Rattle.hp_base.specs.declared.line.Line.{Line}
 use Rattle.hp_base.specs.declared.names.Ground.{Ground}

@@ -1,7 +1,7 @@
 -- The test of two sorts.
 use Rattle.std.proofs.Common.{◌≡◌, true, Option, Some, None, refl}
-use Rattle.hp_ast.specs.declared.problem.Sort.{Sort}
-use Rattle.hp_ast.specs.declared.problem.Sort.TheVariants.{Num, Idx, Ptr}
+use Rattle.hp_tree.specs.declared.problem.Sort.{Sort}
+use Rattle.hp_tree.specs.declared.problem.Sort.TheVariants.{Num, Idx, Ptr}
 use Rattle.hp_ground.specs.Ground.{is_of}
 
 pub is_of-true : (s : Sort) (o : Option Sort) → is_of s o ≡ true → o ≡ Some s

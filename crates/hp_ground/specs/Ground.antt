@@ -2,15 +2,15 @@
 use Rattle.std.specs.Prelude.{◌≡◌, ℕ, List, [], map, Bool, true, false, ◌&&◌, ◌||◌, Option, Some, None, option_and_then, position, slice_get}
 use Rattle.std.specs.List.{All}
 use Rattle.std.specs.Str.{bytes_eq}
-use Rattle.hp_ast.specs.declared.term.Term.{Term, fold-Term}
-use Rattle.hp_ast.specs.declared.term.Term.TheOpen.{Term-F}
-use Rattle.hp_ast.specs.declared.problem.Sort.{Sort}
-use Rattle.hp_ast.specs.declared.problem.Sort.TheVariants as sort
-use Rattle.hp_ast.specs.declared.problem.Atom.{Atom}
-use Rattle.hp_ast.specs.declared.problem.Clause.{Clause}
-use Rattle.hp_ast.specs.declared.problem.Decl.{Decl}
-use Rattle.hp_ast.specs.declared.problem.Decl.TheVariants.{Const, Fun}
-use Rattle.hp_ast.specs.declared.problem.Problem.{Problem}
+use Rattle.hp_tree.specs.declared.term.Term.{Term, fold-Term}
+use Rattle.hp_tree.specs.declared.term.Term.TheOpen.{Term-F}
+use Rattle.hp_tree.specs.declared.problem.Sort.{Sort}
+use Rattle.hp_tree.specs.declared.problem.Sort.TheVariants as sort
+use Rattle.hp_tree.specs.declared.problem.Atom.{Atom}
+use Rattle.hp_tree.specs.declared.problem.Clause.{Clause}
+use Rattle.hp_tree.specs.declared.problem.Decl.{Decl}
+use Rattle.hp_tree.specs.declared.problem.Decl.TheVariants.{Const, Fun}
+use Rattle.hp_tree.specs.declared.problem.Problem.{Problem}
 use Rattle.hp_model.specs.WellFormed.{Declared, constants}
 use Rattle.hp_names.specs.Names.{AreDistinct}
 use Rattle.hp_norm.specs.Literals.{is_index_atom}

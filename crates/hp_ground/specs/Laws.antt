@@ -1,7 +1,7 @@
 -- What ties the ground lines of a problem to the structures of the problem.
 use Rattle.std.specs.Prelude.{ℕ, List, [], ◌∷◌}
 use Rattle.std.specs.List.{All}
-use Rattle.hp_ast.specs.declared.problem.Problem.{Problem}
+use Rattle.hp_tree.specs.declared.problem.Problem.{Problem}
 use Rattle.hp_base.specs.declared.names.Ground.{Ground}
 use Rattle.hp_base.specs.Names.{sorts}
 use Rattle.hp_base.specs.Sorts.{AreOfSorts}

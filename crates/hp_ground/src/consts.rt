@@ -1,13 +1,13 @@
 //! The constants of a problem with their sorts.
 
 ghost use Rattle.std.specs.Prelude.{◌≡◌, ◌<◌, ◌≤◌, ◌++◌, [], ◌∷◌, IfOk, MatchOption, OnOk, length, map};
-ghost use Rattle.hp_ast.specs.declared.problem.Decl.TheVariants.{Const};
+ghost use Rattle.hp_tree.specs.declared.problem.Decl.TheVariants.{Const};
 ghost use Rattle.hp_ground.specs.Ground.{IsGroundDecl, decl_name, sort_of};
 ghost use Rattle.hp_model.specs.WellFormed.{constants};
 ghost use Rattle.hp_ground.specs.Lines.{as_constant};
 ghost use Rattle.hp_ground.specs.Answers.{AreNamesOf, ConstsFound};
 
-use hp_ast::{Decl, Sort};
+use hp_tree::{Decl, Sort};
 use hp_base::Names;
 use hp_names::NameIndex;
 use hp_num::{List, Text};

@@ -10,7 +10,7 @@ ghost use Rattle.hp_ground.specs.Answers.{GroundFound, LinedAs};
 use crate::consts::{Consts, ConstsRead, consts_of, names_of};
 use crate::forms::clauses_are_ground;
 use crate::lines::lines_of;
-use hp_ast::{Clause, Decl, Limit, Problem, Which};
+use hp_tree::{Clause, Decl, Limit, Problem, Which};
 use hp_base::{Ground, GroundErr};
 use std::alloc::Global;
 

@@ -10,7 +10,7 @@ ghost use Rattle.hp_ground.specs.Answers.{LineFound, LinesFound, LitsFound, Push
 
 use crate::consts::Consts;
 use crate::forms::is_num_atom;
-use hp_ast::{Atom, Clause, Limit, Which};
+use hp_tree::{Atom, Clause, Limit, Which};
 use hp_base::{GroundErr, Line, Lit, Origin, Refusal};
 use hp_linear::literals as num_literals;
 use hp_model::Side;

@@ -3,7 +3,7 @@ use Rattle.std.proofs.Common.{◌≡◌, ℕ, zero, suc, ◌+◌, ◌-◌, ◌<�
 use Rattle.std.proofs.lemmas.Bool.{eq-eqb}
 use Rattle.hp_base.specs.declared.line.Line.{Line}
 use Rattle.hp_base.specs.declared.proof.Choice.{Choice}
-use Rattle.hp_ast.specs.declared.problem.Sort.{Sort}
+use Rattle.hp_tree.specs.declared.problem.Sort.{Sort}
 use Rattle.hp_leaf.specs.Tree.{IsLine, Place}
 use Rattle.hp_leaf.specs.Path.{AreIn, HonestFrom, IsHonestPath}
 use Rattle.hp_leaf.proofs.Counting.{on, below, on-push, or_false, or_true, not_eq, in-push, split_once}

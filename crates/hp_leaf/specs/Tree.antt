@@ -6,7 +6,7 @@ use Rattle.hp_base.specs.declared.literal.Lit.{Lit}
 use Rattle.hp_base.specs.declared.literal.Lit.TheVariants.{Idx}
 use Rattle.hp_base.specs.declared.line.Line.{Line}
 use Rattle.hp_base.specs.declared.proof.Choice.{Choice}
-use Rattle.hp_ast.specs.declared.problem.Sort.{Sort}
+use Rattle.hp_tree.specs.declared.problem.Sort.{Sort}
 use Rattle.hp_base.specs.Sorts.{AreOfSorts}
 use Rattle.hp_base.specs.Truth.{Values, IsTrueAt, LineIsTrue}
 use Rattle.hp_leaf.specs.declared.tree.Node.{Node}

@@ -7,8 +7,8 @@ use Rattle.hp_math.proofs.Parts.{whole-parts}
 use Rattle.hp_math.proofs.Laws.{neg_ℚ-neg_ℚ}
 use Rattle.hp_num.specs.Wide.{◌>>=◌}
 use Rattle.hp_num.proofs.Given.{came}
-use Rattle.hp_ast.specs.declared.term.Term.{Term, fold-roll-Term, ind-Term, roll-Term, map-Term}
-use Rattle.hp_ast.specs.declared.term.Term.TheOpen.{Term-F}
+use Rattle.hp_tree.specs.declared.term.Term.{Term, fold-roll-Term, ind-Term, roll-Term, map-Term}
+use Rattle.hp_tree.specs.declared.term.Term.TheOpen.{Term-F}
 use Rattle.hp_base.specs.declared.literal.Name.{Name}
 use Rattle.hp_base.specs.Words.{Word, number}
 use Rattle.hp_base.proofs.Words.{numbered}

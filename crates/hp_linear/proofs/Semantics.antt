@@ -6,8 +6,8 @@ use Rattle.hp_math.specs.Rational.{ℚ, whole, ◌+ℚ◌, ◌-ℚ◌, ◌*ℚ�
 use Rattle.hp_math.proofs.Field.{+ℚ_zero}
 use Rattle.hp_num.specs.Wide.{◌>>=◌}
 use Rattle.hp_num.proofs.Given.{came}
-use Rattle.hp_ast.specs.declared.term.Term.{Term, fold-roll-Term, ind-Term, roll-Term, map-Term}
-use Rattle.hp_ast.specs.declared.term.Term.TheOpen.{Term-F}
+use Rattle.hp_tree.specs.declared.term.Term.{Term, fold-roll-Term, ind-Term, roll-Term, map-Term}
+use Rattle.hp_tree.specs.declared.term.Term.TheOpen.{Term-F}
 use Rattle.hp_base.specs.declared.literal.Name.{Name}
 use Rattle.hp_base.specs.Truth.{Values, name_value}
 use Rattle.hp_base.specs.Words.{Word, Agrees, number}

@@ -4,8 +4,8 @@ use Rattle.hp_math.specs.Rational.{ℚ, ◌<ℚ◌, le_ℚ, lt_ℚ, eq_ℚ}
 use Rattle.hp_math.proofs.Field.{le_ℚ-true, lt_ℚ-true}
 use Rattle.hp_num.specs.Wide.{◌>>=◌}
 use Rattle.hp_num.proofs.Given.{came}
-use Rattle.hp_ast.specs.declared.problem.Cmp.{Cmp}
-use Rattle.hp_ast.specs.declared.problem.Cmp.TheVariants.{Le, Lt, Eq, Ne, Ge, Gt}
+use Rattle.hp_tree.specs.declared.problem.Cmp.{Cmp}
+use Rattle.hp_tree.specs.declared.problem.Cmp.TheVariants.{Le, Lt, Eq, Ne, Ge, Gt}
 use Rattle.hp_base.specs.declared.literal.Rel.{Rel}
 use Rattle.hp_base.specs.declared.literal.Rel.TheVariants as rel
 use Rattle.hp_base.specs.declared.literal.Lit.{Lit}

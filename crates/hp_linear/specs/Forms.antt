@@ -2,8 +2,8 @@
 use Rattle.std.specs.Prelude.{ℕ, Bool, true, false, ◌&&◌, List, [], ◌∷◌, map, Option, Some, None, is_some, Ok, unsigned_abs, pos, if◌then◌else◌, nat_lt}
 use Rattle.hp_math.specs.Rational.{ℚ, whole, neg_ℚ, eq_ℚ}
 use Rattle.hp_num.specs.Wide.{add_of, mul_of, ◌>>=◌}
-use Rattle.hp_ast.specs.declared.term.Term.{Term, fold-Term}
-use Rattle.hp_ast.specs.declared.term.Term.TheOpen.{Term-F}
+use Rattle.hp_tree.specs.declared.term.Term.{Term, fold-Term}
+use Rattle.hp_tree.specs.declared.term.Term.TheOpen.{Term-F}
 use Rattle.hp_base.specs.declared.literal.Name.{Name}
 use Rattle.hp_base.specs.Words.{Word, number}
 use Rattle.hp_linear.specs.declared.form.Summand.{Summand}

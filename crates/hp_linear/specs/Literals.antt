@@ -1,9 +1,9 @@
 -- The literals of an atom over linear terms.
 use Rattle.std.specs.Prelude.{ℕ, List, [], ◌∷◌, neg_ℤ, Ok}
 use Rattle.hp_num.specs.Wide.{◌>>=◌}
-use Rattle.hp_ast.specs.declared.problem.Cmp.{Cmp}
-use Rattle.hp_ast.specs.declared.problem.Cmp.TheVariants.{Le, Lt, Eq, Ne, Ge, Gt}
-use Rattle.hp_ast.specs.declared.problem.Atom.{Atom}
+use Rattle.hp_tree.specs.declared.problem.Cmp.{Cmp}
+use Rattle.hp_tree.specs.declared.problem.Cmp.TheVariants.{Le, Lt, Eq, Ne, Ge, Gt}
+use Rattle.hp_tree.specs.declared.problem.Atom.{Atom}
 use Rattle.hp_base.specs.declared.literal.Rel.{Rel}
 use Rattle.hp_base.specs.declared.literal.Rel.TheVariants as rel
 use Rattle.hp_base.specs.declared.literal.Lit.{Lit}

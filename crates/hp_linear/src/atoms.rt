@@ -7,7 +7,7 @@ ghost use Rattle.hp_linear.specs.Answers.{Answers, Pushed, Written};
 use crate::collect::collect;
 use crate::form::{Form, minus};
 use crate::wholes::row_of;
-use hp_ast::{Atom, Cmp};
+use hp_tree::{Atom, Cmp};
 use hp_base::{Lit, NumLit, Refusal, Rel};
 use hp_model::{Side, taken};
 use hp_names::NameIndex;

@@ -6,7 +6,7 @@ ghost use Rattle.hp_linear.specs.Forms.{lin_of};
 ghost use Rattle.hp_linear.specs.Answers.{Answers};
 
 use crate::form::{Form, minus, named, negated, number, plus, times, zero};
-use hp_ast::Term;
+use hp_tree::Term;
 use hp_base::{Name, Refusal};
 use hp_names::NameIndex;
 use std::alloc::Global;

@@ -1,6 +1,6 @@
 -- What clauses without variables say.
 use Rattle.std.specs.Prelude.{◌≡◌, ◌↔◌, [], ◌||◌, not, true}
-use Rattle.hp_ast.specs.declared.problem.Clause.{Clause}
+use Rattle.hp_tree.specs.declared.problem.Clause.{Clause}
 use Rattle.hp_model.specs.declared.structure.Structure.{Structure}
 use Rattle.hp_model.specs.Value.{constant, functions_of, all_true, one_true}
 use Rattle.hp_model.specs.Satisfies.{Holds}

@@ -1,7 +1,7 @@
 -- Truth of a clause in a structure, and what it is that a structure satisfies a problem.
 use Rattle.std.specs.List.{All}
-use Rattle.hp_ast.specs.declared.problem.Clause.{Clause}
-use Rattle.hp_ast.specs.declared.problem.Problem.{Problem}
+use Rattle.hp_tree.specs.declared.problem.Clause.{Clause}
+use Rattle.hp_tree.specs.declared.problem.Problem.{Problem}
 use Rattle.hp_model.specs.declared.structure.Structure.{Structure}
 use Rattle.hp_model.specs.WellFormed.{WellFormed}
 use Rattle.hp_model.specs.Value.{constant, functions_of}

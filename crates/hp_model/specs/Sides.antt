@@ -1,7 +1,7 @@
 -- What a side of a clause asks of an atom.
 use Rattle.std.specs.Prelude.{Bool, not}
-use Rattle.hp_ast.specs.declared.problem.Cmp.{Cmp}
-use Rattle.hp_ast.specs.declared.problem.Cmp.TheVariants.{Le, Lt, Eq, Ne, Ge, Gt}
+use Rattle.hp_tree.specs.declared.problem.Cmp.{Cmp}
+use Rattle.hp_tree.specs.declared.problem.Cmp.TheVariants.{Le, Lt, Eq, Ne, Ge, Gt}
 use Rattle.hp_model.specs.declared.sides.Side.{Side}
 use Rattle.hp_model.specs.declared.sides.Side.TheVariants.{Guard, Head}
 

@@ -2,9 +2,9 @@
 use Rattle.std.specs.Prelude.{ℕ, List, [], ◌∷◌, Bool, ◌||◌, not, if◌then◌else◌, IsTrue}
 use Rattle.std.specs.Str.{bytes_eq}
 use Rattle.hp_math.specs.Rational.{ℚ}
-use Rattle.hp_ast.specs.declared.problem.Var.{Var}
-use Rattle.hp_ast.specs.declared.problem.Atom.{Atom}
-use Rattle.hp_ast.specs.declared.problem.Clause.{Clause}
+use Rattle.hp_tree.specs.declared.problem.Var.{Var}
+use Rattle.hp_tree.specs.declared.problem.Atom.{Atom}
+use Rattle.hp_tree.specs.declared.problem.Clause.{Clause}
 use Rattle.hp_model.specs.WellFormed.{is_of_sort}
 use Rattle.hp_model.specs.Value.{Names, Functions, all_true, one_true}
 

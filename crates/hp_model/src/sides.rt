@@ -3,7 +3,7 @@
 ghost use Rattle.std.specs.Prelude.{◌≡◌};
 ghost use Rattle.hp_model.specs.Sides.{negated, taken};
 
-use hp_ast::Cmp;
+use hp_tree::Cmp;
 
 /// The part of a clause that an atom stands in. An atom of the guard stands for its negation.
 #[derive(Clone, Copy)]

@@ -1,6 +1,6 @@
 //! The data of a structure. What it makes true is said in the definitions of values and truth.
 
-use hp_ast::{Atom, Term};
+use hp_tree::{Atom, Term};
 use hp_num::{Frac, List, Text};
 
 /// The value of a constant: a whole number for an index, a whole number below the universe for a pointer.

@@ -2,8 +2,8 @@
 use Rattle.std.proofs.Common.{◌≡◌, true, false, cond, ℤ, pos, neg_ℤ, ◌+ℤ◌, List, Option, Some, None, refl, sym, ap, subst, ◌∙◌}
 use Rattle.hp_math.specs.Rational.{ℚ, whole, ◌+ℚ◌, ◌-ℚ◌, neg_ℚ, is_whole}
 use Rattle.hp_math.proofs.Field.{+ℚ_zero, +ℚ_comm, +ℚ_assoc}
-use Rattle.hp_ast.specs.declared.term.Term.{Term, fold-roll-Term, ind-Term, roll-Term, map-Term}
-use Rattle.hp_ast.specs.declared.term.Term.TheOpen.{Term-F}
+use Rattle.hp_tree.specs.declared.term.Term.{Term, fold-roll-Term, ind-Term, roll-Term, map-Term}
+use Rattle.hp_tree.specs.declared.term.Term.TheOpen.{Term-F}
 use Rattle.hp_base.specs.declared.literal.Name.{Name}
 use Rattle.hp_base.specs.Truth.{Values, name_value, optional_value}
 use Rattle.hp_base.specs.Words.{Word, Agrees, number}

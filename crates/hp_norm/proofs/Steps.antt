@@ -6,9 +6,9 @@ use Rattle.hp_base.specs.declared.refusal.Refusal.{Refusal}
 use Rattle.hp_base.specs.declared.refusal.Refusal.TheVariants.{Wide, Memory}
 use Rattle.hp_base.specs.Words.{Word}
 use Rattle.hp_base.proofs.Growing.{begins_more, begins_then}
-use Rattle.hp_ast.specs.declared.term.Term.{Term}
-use Rattle.hp_ast.specs.declared.problem.Atom.{Atom}
-use Rattle.hp_ast.specs.declared.problem.Cmp.{Cmp}
+use Rattle.hp_tree.specs.declared.term.Term.{Term}
+use Rattle.hp_tree.specs.declared.problem.Atom.{Atom}
+use Rattle.hp_tree.specs.declared.problem.Cmp.{Cmp}
 use Rattle.hp_model.specs.declared.sides.Side.{Side}
 use Rattle.hp_model.specs.Sides.{taken}
 use Rattle.hp_norm.specs.declared.collect.Form.{Form}

@@ -3,8 +3,8 @@ use Rattle.std.proofs.Common.{◌≡◌, ◌↔◌, ◌⊎◌, Bool, true, false
 use Rattle.std.proofs.lemmas.Bool.{eqb-true}
 use Rattle.hp_math.specs.Rational.{whole, ◌-ℚ◌, ◌≤ℚ◌, ◌<ℚ◌, is_whole, eq_ℚ}
 use Rattle.hp_math.proofs.Field.{+ℚ-neg_ℚ, ≤ℚ_refl, le_ℚ-true, lt_ℚ-true}
-use Rattle.hp_ast.specs.declared.problem.Cmp.{Cmp}
-use Rattle.hp_ast.specs.declared.problem.Cmp.TheVariants.{Le, Lt, Eq, Ne, Ge, Gt}
+use Rattle.hp_tree.specs.declared.problem.Cmp.{Cmp}
+use Rattle.hp_tree.specs.declared.problem.Cmp.TheVariants.{Le, Lt, Eq, Ne, Ge, Gt}
 use Rattle.hp_base.specs.declared.literal.Name.{Name}
 use Rattle.hp_base.specs.declared.literal.Rel.{Rel}
 use Rattle.hp_base.specs.declared.literal.Rel.TheVariants as rel

@@ -1,7 +1,7 @@
 -- What each call answers.
 use Rattle.std.specs.Prelude.{◌≡◌, List, ◌++◌, Result, Ok, Err}
 use Rattle.std.specs.List.{All}
-use Rattle.hp_ast.specs.declared.problem.Atom.{Atom}
+use Rattle.hp_tree.specs.declared.problem.Atom.{Atom}
 use Rattle.hp_base.specs.declared.literal.Lit.{Lit}
 use Rattle.hp_base.specs.declared.refusal.Refusal.{Refusal}
 use Rattle.hp_base.specs.declared.refusal.Refusal.TheVariants.{Wide, Memory}

@@ -1,8 +1,8 @@
 -- What ties forms to the values of terms, and literals to the truth of atoms.
 use Rattle.std.specs.Prelude.{◌≡◌, ◌↔◌, List, true}
 use Rattle.hp_math.specs.Rational.{is_whole}
-use Rattle.hp_ast.specs.declared.term.Term.{Term}
-use Rattle.hp_ast.specs.declared.problem.Atom.{Atom}
+use Rattle.hp_tree.specs.declared.term.Term.{Term}
+use Rattle.hp_tree.specs.declared.problem.Atom.{Atom}
 use Rattle.hp_base.specs.Truth.{Values, LineIsTrue, optional_value}
 use Rattle.hp_base.specs.Words.{Word, Agrees}
 use Rattle.hp_model.specs.declared.sides.Side.{Side}

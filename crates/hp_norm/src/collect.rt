@@ -6,7 +6,7 @@ ghost use Rattle.std.specs.Prelude.{◌≡◌, ◌<◌, ◌≤◌, ◌^◌, ◌+
 ghost use Rattle.hp_base.specs.Words.{number};
 ghost use Rattle.hp_norm.specs.Forms.{IsSmall, IsSmallShape, is_index_shape, largest, minus_shape, named_shape, neg_shape, number_shape, plus_shape, shape_form, shape_of, shifted, weight};
 
-use hp_ast::Term;
+use hp_tree::Term;
 use hp_base::Name;
 use hp_names::NameIndex;
 use hp_num::Frac;

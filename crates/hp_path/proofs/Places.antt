@@ -10,8 +10,8 @@ use Rattle.std.proofs.lemmas.List.Elements.{All-append, All-cons, All-head, All-
 use Rattle.hp_math.specs.Rational.{ℚ, is_whole, ratio, whole}
 use Rattle.hp_math.proofs.Rational.{ratio-kept}
 use Rattle.hp_math.proofs.Field.{≤ℚ_refl}
-use Rattle.hp_ast.specs.declared.problem.Sort.{Sort}
-use Rattle.hp_ast.specs.declared.problem.Sort.TheVariants.{Num, Idx, Ptr}
+use Rattle.hp_tree.specs.declared.problem.Sort.{Sort}
+use Rattle.hp_tree.specs.declared.problem.Sort.TheVariants.{Num, Idx, Ptr}
 use Rattle.hp_base.specs.declared.valuation.NameValue.{NameValue}
 use Rattle.hp_base.specs.Sorts.{IsOfSort, AreOfSorts}
 use Rattle.hp_base.specs.Truth.{Values, name_value}

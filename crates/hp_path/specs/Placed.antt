@@ -1,8 +1,8 @@
 -- Values of some names, put in their places among the values of all names.
 use Rattle.std.specs.Prelude.{◌≡◌, ◌≢◌, ◌⊎◌, List, [], ◌∷◌, Some, slice_get, slice_set}
 use Rattle.std.specs.List.{All}
-use Rattle.hp_ast.specs.declared.problem.Sort.{Sort}
-use Rattle.hp_ast.specs.declared.problem.Sort.TheVariants as sort
+use Rattle.hp_tree.specs.declared.problem.Sort.{Sort}
+use Rattle.hp_tree.specs.declared.problem.Sort.TheVariants as sort
 use Rattle.hp_base.specs.declared.literal.NumLit.{NumLit}
 use Rattle.hp_base.specs.declared.valuation.NameValue.{NameValue}
 use Rattle.hp_base.specs.Truth.{Values, name_value, NumIsTrue}

@@ -1,7 +1,7 @@
 -- What is answered of the literals of one sort, in the numbers that literals have along the path.
 use Rattle.std.specs.Prelude.{◌≡◌, ℕ, List, map}
 use Rattle.std.specs.List.{All, filter}
-use Rattle.hp_ast.specs.declared.problem.Sort.{Sort}
+use Rattle.hp_tree.specs.declared.problem.Sort.{Sort}
 use Rattle.hp_base.specs.declared.literal.Lit.{Lit}
 use Rattle.hp_base.specs.declared.literal.Lit.TheVariants.{Num}
 use Rattle.hp_base.specs.declared.literal.NumLit.{NumLit}

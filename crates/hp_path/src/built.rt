@@ -2,12 +2,12 @@
 
 ghost use Rattle.std.specs.Prelude.{◌≡◌, ◌↔◌, Some, slice_get, true};
 ghost use Rattle.std.specs.List.{All};
-ghost use Rattle.hp_ast.specs.declared.problem.Sort.TheVariants.{Num};
+ghost use Rattle.hp_tree.specs.declared.problem.Sort.TheVariants.{Num};
 ghost use Rattle.hp_base.specs.Names.{sorts};
 ghost use Rattle.hp_diff.specs.Rows.{IsSmallBound};
 ghost use Rattle.hp_path.specs.Built.{IsBuilt, IsIdxSide, IsNumOver, IsRowOver};
 
-use hp_ast::Sort;
+use hp_tree::Sort;
 use hp_base::{IdxLit, Lit, Name, Names, NumLit, Part};
 use hp_descent::are_fit;
 use std::slice;

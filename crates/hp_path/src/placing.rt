@@ -2,7 +2,7 @@
 ghost use Rattle.std.specs.Prelude.{◌≡◌, ◌<◌, ◌++◌, ℕ, IfOk, OnOk, Some, length, pos, replicate, slice_get};
 ghost use Rattle.std.specs.List.{All};
 ghost use Rattle.hp_math.specs.Rational.{whole};
-ghost use Rattle.hp_ast.specs.declared.problem.Sort.TheVariants.{Num};
+ghost use Rattle.hp_tree.specs.declared.problem.Sort.TheVariants.{Num};
 ghost use Rattle.hp_base.specs.Names.{sorts};
 ghost use Rattle.hp_base.specs.Truth.{name_value};
 ghost use Rattle.hp_base.specs.Sorts.{AreOfSorts};

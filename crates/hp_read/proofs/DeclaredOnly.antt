@@ -1,9 +1,9 @@
 -- What is spelled as a declaration or a list of variables is read as that, and from each state some tokens lead to an end.
 use Rattle.std.proofs.Common.{◌≡◌, ℕ, List, [], ◌∷◌, ◌++◌, Some, refl, ap, ◌∙◌}
-use Rattle.hp_ast.specs.declared.problem.Decl.{Decl}
-use Rattle.hp_ast.specs.declared.problem.Decl.TheVariants.{Fun}
-use Rattle.hp_ast.specs.declared.problem.Sort.{Sort}
-use Rattle.hp_ast.specs.declared.problem.Var.{Var}
+use Rattle.hp_tree.specs.declared.problem.Decl.{Decl}
+use Rattle.hp_tree.specs.declared.problem.Decl.TheVariants.{Fun}
+use Rattle.hp_tree.specs.declared.problem.Sort.{Sort}
+use Rattle.hp_tree.specs.declared.problem.Var.{Var}
 use Rattle.hp_text.specs.declared.token.Kind.TheVariants as kinds
 use Rattle.hp_read.specs.declared.lines.Constants.{Constants}
 use Rattle.hp_read.specs.declared.lines.Constants.TheVariants as c

@@ -1,10 +1,10 @@
 -- A state whose first clauses were given up goes on as the whole one does.
 use Rattle.std.proofs.Common.{◌≡◌, Bool, true, false, List, [], ◌∷◌, ◌++◌, Option, Some, None, refl, sym, ap, subst, ◌∙◌, append_assoc}
 use Rattle.std.specs.Prelude.{if◌then◌else◌}
-use Rattle.hp_ast.specs.declared.problem.Atom.{Atom}
-use Rattle.hp_ast.specs.declared.problem.Clause.{Clause}
-use Rattle.hp_ast.specs.declared.problem.Problem.{Problem}
-use Rattle.hp_ast.specs.declared.problem.Var.{Var}
+use Rattle.hp_tree.specs.declared.problem.Atom.{Atom}
+use Rattle.hp_tree.specs.declared.problem.Clause.{Clause}
+use Rattle.hp_tree.specs.declared.problem.Problem.{Problem}
+use Rattle.hp_tree.specs.declared.problem.Var.{Var}
 use Rattle.hp_text.specs.declared.token.Kind.{Kind}
 use Rattle.hp_text.specs.declared.token.Kind.TheVariants as kinds
 use Rattle.hp_body.specs.declared.body.Body.{Body as BodyState}

@@ -1,10 +1,10 @@
 -- Reading declarations and lists of variables, token by token.
 use Rattle.std.specs.Prelude.{ℕ, if◌then◌else◌, List, [], ◌∷◌, ◌++◌, Option, Some, None}
-use Rattle.hp_ast.specs.declared.problem.Decl.{Decl}
-use Rattle.hp_ast.specs.declared.problem.Decl.TheVariants.{Fun}
-use Rattle.hp_ast.specs.declared.problem.Sort.{Sort}
-use Rattle.hp_ast.specs.declared.problem.Sort.TheVariants as sorts
-use Rattle.hp_ast.specs.declared.problem.Var.{Var}
+use Rattle.hp_tree.specs.declared.problem.Decl.{Decl}
+use Rattle.hp_tree.specs.declared.problem.Decl.TheVariants.{Fun}
+use Rattle.hp_tree.specs.declared.problem.Sort.{Sort}
+use Rattle.hp_tree.specs.declared.problem.Sort.TheVariants as sorts
+use Rattle.hp_tree.specs.declared.problem.Var.{Var}
 use Rattle.hp_text.specs.declared.token.Kind.{Kind}
 use Rattle.hp_text.specs.declared.token.Kind.TheVariants as kinds
 use Rattle.hp_read.specs.declared.lines.Constants.{Constants}

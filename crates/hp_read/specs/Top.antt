@@ -1,12 +1,12 @@
 -- Reading a whole text, token by token.
 use Rattle.std.specs.Prelude.{Bool, true, false, if◌then◌else◌, ◌==◌, List, [], ◌∷◌, ◌++◌, Option, Some, None}
-use Rattle.hp_ast.specs.declared.problem.Clause.{Clause}
-use Rattle.hp_ast.specs.declared.problem.Decl.{Decl}
-use Rattle.hp_ast.specs.declared.problem.Problem.{Problem}
+use Rattle.hp_tree.specs.declared.problem.Clause.{Clause}
+use Rattle.hp_tree.specs.declared.problem.Decl.{Decl}
+use Rattle.hp_tree.specs.declared.problem.Problem.{Problem}
 use Rattle.hp_text.specs.declared.token.Kind.{Kind}
 use Rattle.hp_text.specs.declared.token.Kind.TheVariants as kinds
 use Rattle.hp_body.specs.declared.body.Place.TheVariants.{First}
-use Rattle.hp_ast.specs.declared.problem.Var.{Var}
+use Rattle.hp_tree.specs.declared.problem.Var.{Var}
 use Rattle.hp_body.specs.declared.body.Body.{Body as BodyState}
 use Rattle.hp_read.specs.declared.lines.Constants.{Constants as ConstantsState}
 use Rattle.hp_read.specs.declared.lines.Constants.TheVariants as constants

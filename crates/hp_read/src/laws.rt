@@ -1,7 +1,7 @@
 //! Laws of the definitions, each the contract of a function that does nothing.
 
 ghost use Rattle.std.specs.Prelude.{◌≡◌, ℕ, List};
-ghost use Rattle.hp_ast.specs.declared.problem.Problem.{Problem as Spelled};
+ghost use Rattle.hp_tree.specs.declared.problem.Problem.{Problem as Spelled};
 ghost use Rattle.hp_grammar.specs.Spells.{Spells, IsFault, HasMeaning};
 ghost use Rattle.hp_grammar.specs.declared.fault.ReadErr.{ReadErr as Fault};
 ghost use Rattle.hp_grammar.specs.declared.fault.ReadErr.TheVariants.{Memory};

@@ -11,11 +11,11 @@ ghost use Rattle.hp_grammar.specs.Spells.{Spells, IsFault};
 ghost use Rattle.hp_read.specs.Reading.{IsReading};
 ghost use Rattle.hp_grammar.specs.Symbols.{symbol_of};
 ghost use Rattle.hp_read.specs.Top.{started, top_step};
-ghost use Rattle.hp_ast.specs.declared.problem.Problem.{Problem as Spelled};
+ghost use Rattle.hp_tree.specs.declared.problem.Problem.{Problem as Spelled};
 ghost use Rattle.hp_grammar.specs.declared.fault.ReadErr.TheVariants.{Memory};
 
 use crate::stage::Progress;
-use hp_ast::Problem;
+use hp_tree::Problem;
 use hp_body::Stop;
 use hp_grammar::{Counts, ReadErr, symbol_at};
 use hp_text::{Cursor, Kind, Token};

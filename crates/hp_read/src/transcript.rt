@@ -4,7 +4,7 @@
 
 ghost use Rattle.std.specs.Prelude.{Ok, Err, ◌≡◌, ◌≢◌, ◌<◌, ◌⊎◌, IfOk, IfErr, OnOk, length};
 ghost use Rattle.hp_ast.specs.Printing.{problem_text};
-ghost use Rattle.hp_ast.specs.declared.problem.Problem.{Problem as Spelled};
+ghost use Rattle.hp_tree.specs.declared.problem.Problem.{Problem as Spelled};
 ghost use Rattle.hp_text.specs.Tokens.{next_from};
 ghost use Rattle.hp_text.specs.Placed.{IsPlaced};
 ghost use Rattle.hp_text.specs.declared.token.Kind.TheVariants.{End};
@@ -14,7 +14,8 @@ ghost use Rattle.hp_grammar.specs.declared.fault.ReadErr.TheVariants.{Memory};
 
 use crate::reader::Reading;
 use crate::stage::Stage;
-use hp_ast::{Problem, put_clauses, put_heading};
+use hp_ast::{put_clauses, put_heading};
+use hp_tree::Problem;
 use hp_grammar::ReadErr;
 use hp_num::{List, Text};
 use hp_text::{Cursor, Kind, Token};

@@ -1,6 +1,6 @@
 -- The tokens of a derived term derive it, at each place.
 use Rattle.std.proofs.Common.{◌≡◌, List, [], ◌∷◌, ◌++◌, append-nil}
-use Rattle.hp_ast.specs.declared.term.Term.{Term}
+use Rattle.hp_tree.specs.declared.term.Term.{Term}
 use Rattle.hp_ast.specs.declared.printing.Place.{Place}
 use Rattle.hp_ast.specs.declared.printing.Place.TheVariants.{Whole, Operand, Factor}
 use Rattle.hp_text.specs.declared.token.Kind.TheVariants as kinds

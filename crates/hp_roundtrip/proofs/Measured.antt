@@ -2,7 +2,7 @@
 use Rattle.std.proofs.Common.{◌≡◌, ℕ, ◌+◌, Bool, true, false, List, [], ◌∷◌, ◌++◌, refl, append-nil, arith}
 use Rattle.std.specs.Prelude.{pos}
 use Rattle.hp_math.specs.Rational.{ℚ, ratio}
-use Rattle.hp_ast.specs.declared.term.Term.{Term}
+use Rattle.hp_tree.specs.declared.term.Term.{Term}
 use Rattle.hp_ast.specs.declared.printing.Place.{Place}
 use Rattle.hp_ast.specs.declared.printing.Place.TheVariants.{Whole, Operand, Factor}
 use Rattle.hp_text.specs.declared.token.Kind.TheVariants as kinds

@@ -8,14 +8,14 @@ use Rattle.hp_text.specs.declared.token.Kind.TheVariants as kinds
 use Rattle.hp_text.specs.declared.token.Token.{Token as Placed}
 use Rattle.hp_text.specs.Lexes.{Lexes}
 use Rattle.hp_ast.specs.declared.printing.Place.TheVariants.{Whole}
-use Rattle.hp_ast.specs.declared.problem.Sort.{Sort}
-use Rattle.hp_ast.specs.declared.problem.Sort.TheVariants.{Num, Idx, Ptr}
-use Rattle.hp_ast.specs.declared.problem.Atom.{Atom}
-use Rattle.hp_ast.specs.declared.problem.Var.{Var}
-use Rattle.hp_ast.specs.declared.problem.Clause.{Clause}
-use Rattle.hp_ast.specs.declared.problem.Decl.{Decl}
-use Rattle.hp_ast.specs.declared.problem.Decl.TheVariants.{Const, Fun}
-use Rattle.hp_ast.specs.declared.problem.Problem.{Problem}
+use Rattle.hp_tree.specs.declared.problem.Sort.{Sort}
+use Rattle.hp_tree.specs.declared.problem.Sort.TheVariants.{Num, Idx, Ptr}
+use Rattle.hp_tree.specs.declared.problem.Atom.{Atom}
+use Rattle.hp_tree.specs.declared.problem.Var.{Var}
+use Rattle.hp_tree.specs.declared.problem.Clause.{Clause}
+use Rattle.hp_tree.specs.declared.problem.Decl.{Decl}
+use Rattle.hp_tree.specs.declared.problem.Decl.TheVariants.{Const, Fun}
+use Rattle.hp_tree.specs.declared.problem.Problem.{Problem}
 use Rattle.hp_ast.specs.Printing.{term_text, relation_text, atom_text, guard_text, head_text, sort_text, var_text, word_text, clause_text, decl_text, line, problem_text}
 use Rattle.hp_grammar.specs.Token.{is_token, AreTokens}
 use Rattle.hp_grammar.specs.Symbols.{symbols}

@@ -6,19 +6,19 @@ use Rattle.std.proofs.lemmas.Bool.{ltb-true, lt-ltb}
 use Rattle.std.proofs.lemmas.Grind.{flat_map-append}
 use Rattle.std.proofs.lemmas.List.{map-append}
 use Rattle.hp_math.specs.Rational.{ℚ, ratio}
-use Rattle.hp_ast.specs.declared.term.Term.{Term}
+use Rattle.hp_tree.specs.declared.term.Term.{Term}
 use Rattle.hp_ast.specs.declared.printing.Place.{Place}
 use Rattle.hp_ast.specs.declared.printing.Place.TheVariants.{Whole, Operand, Factor}
-use Rattle.hp_ast.specs.declared.problem.Atom.{Atom}
-use Rattle.hp_ast.specs.declared.problem.Clause.{Clause}
-use Rattle.hp_ast.specs.declared.problem.Cmp.{Cmp}
-use Rattle.hp_ast.specs.declared.problem.Cmp.TheVariants.{Le, Lt, Eq, Ne, Ge, Gt}
-use Rattle.hp_ast.specs.declared.problem.Decl.{Decl}
-use Rattle.hp_ast.specs.declared.problem.Decl.TheVariants.{Const, Fun}
-use Rattle.hp_ast.specs.declared.problem.Problem.{Problem}
-use Rattle.hp_ast.specs.declared.problem.Sort.{Sort}
-use Rattle.hp_ast.specs.declared.problem.Sort.TheVariants.{Num, Idx, Ptr}
-use Rattle.hp_ast.specs.declared.problem.Var.{Var}
+use Rattle.hp_tree.specs.declared.problem.Atom.{Atom}
+use Rattle.hp_tree.specs.declared.problem.Clause.{Clause}
+use Rattle.hp_tree.specs.declared.problem.Cmp.{Cmp}
+use Rattle.hp_tree.specs.declared.problem.Cmp.TheVariants.{Le, Lt, Eq, Ne, Ge, Gt}
+use Rattle.hp_tree.specs.declared.problem.Decl.{Decl}
+use Rattle.hp_tree.specs.declared.problem.Decl.TheVariants.{Const, Fun}
+use Rattle.hp_tree.specs.declared.problem.Problem.{Problem}
+use Rattle.hp_tree.specs.declared.problem.Sort.{Sort}
+use Rattle.hp_tree.specs.declared.problem.Sort.TheVariants.{Num, Idx, Ptr}
+use Rattle.hp_tree.specs.declared.problem.Var.{Var}
 use Rattle.hp_ast.specs.Printing.{encloses_sum, encloses_product}
 use Rattle.hp_text.specs.declared.token.Kind.{Kind}
 use Rattle.hp_text.specs.declared.token.Kind.TheVariants as kinds

@@ -9,8 +9,8 @@ use Rattle.hp_text.specs.declared.token.Kind.TheVariants as kinds
 use Rattle.hp_text.specs.Words.{is_name}
 use Rattle.hp_ast.specs.declared.printing.Place.{Place}
 use Rattle.hp_ast.specs.declared.printing.Place.TheVariants.{Whole, Operand, Factor}
-use Rattle.hp_ast.specs.declared.term.Term.{Term, fold-roll-Term, ind-Term, roll-Term, map-Term}
-use Rattle.hp_ast.specs.declared.term.Term.TheOpen.{Term-F}
+use Rattle.hp_tree.specs.declared.term.Term.{Term, fold-roll-Term, ind-Term, roll-Term, map-Term}
+use Rattle.hp_tree.specs.declared.term.Term.TheOpen.{Term-F}
 use Rattle.hp_ast.specs.Printing.{frac_text, enclosed, encloses_sum, encloses_product, text_step, text_at}
 use Rattle.hp_grammar.specs.Token.{is_token, AreTokens}
 use Rattle.hp_grammar.specs.declared.symbol.Symbol.{Symbol as Token}

@@ -1,6 +1,6 @@
 -- Printing after reading.
 use Rattle.std.specs.Prelude.{◌≡◌, ℕ, List}
-use Rattle.hp_ast.specs.declared.problem.Problem.{Problem}
+use Rattle.hp_tree.specs.declared.problem.Problem.{Problem}
 use Rattle.hp_ast.specs.Printing.{problem_text}
 use Rattle.hp_grammar.specs.Spells.{Spells}
 

@@ -3,7 +3,7 @@
 
 ghost use Rattle.std.specs.Prelude.{Ok, Err, ◌≡◌, ◌⊎◌, IfOk, IfErr};
 ghost use Rattle.hp_ast.specs.Printing.{problem_text};
-ghost use Rattle.hp_ast.specs.declared.problem.Problem.{Problem as Spelled};
+ghost use Rattle.hp_tree.specs.declared.problem.Problem.{Problem as Spelled};
 ghost use Rattle.hp_grammar.specs.Spells.{Spells, IsFault};
 ghost use Rattle.hp_grammar.specs.declared.fault.ReadErr.TheVariants.{Memory};
 ghost use Rattle.hp_roundtrip.specs.Law.{Reprints};

@@ -2,7 +2,7 @@
 use Rattle.std.proofs.Common.{◌≡◌, ℕ, ◌+◌, List, [], ◌∷◌, Bool, true, false, not, Some, None, refl, if◌then◌else◌}
 use Rattle.std.specs.List.{All}
 use Rattle.std.proofs.lemmas.List.Elements.{All-nil, All-cons}
-use Rattle.hp_ast.specs.declared.problem.Clause.{Clause}
+use Rattle.hp_tree.specs.declared.problem.Clause.{Clause}
 use Rattle.hp_sorts.specs.declared.fault.SortErr.{SortErr}
 use Rattle.hp_sorts.specs.declared.fault.SortErr.TheVariants.{Unknown, Arity, Mismatch}
 use Rattle.hp_sorts.specs.declared.naming.NameRule.TheVariants.{Known, Counted}

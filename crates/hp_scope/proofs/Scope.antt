@@ -4,11 +4,11 @@ use Rattle.std.specs.List.{All, list_all}
 use Rattle.std.proofs.lemmas.Bool.{and_parts}
 use Rattle.std.proofs.lemmas.List.Elements.{All-weaker}
 use Rattle.std.proofs.lemmas.List.Sums.{AllPass-from_list_all}
-use Rattle.hp_ast.specs.declared.problem.Sort.TheVariants.{Num, Idx}
-use Rattle.hp_ast.specs.declared.problem.Atom.{Atom}
-use Rattle.hp_ast.specs.declared.problem.Clause.{Clause}
-use Rattle.hp_ast.specs.declared.problem.Var.{Var}
-use Rattle.hp_ast.specs.declared.problem.Problem.{Problem}
+use Rattle.hp_tree.specs.declared.problem.Sort.TheVariants.{Num, Idx}
+use Rattle.hp_tree.specs.declared.problem.Atom.{Atom}
+use Rattle.hp_tree.specs.declared.problem.Clause.{Clause}
+use Rattle.hp_tree.specs.declared.problem.Var.{Var}
+use Rattle.hp_tree.specs.declared.problem.Problem.{Problem}
 use Rattle.hp_sorts.specs.declared.tables.Tables.{Tables}
 use Rattle.hp_sorts.specs.Symbols.{no_symbols, symbols, variables}
 use Rattle.hp_sorts.specs.Terms.{atom_is_sorted, atom_sort}

@@ -6,10 +6,10 @@ use Rattle.std.specs.Str.{bytes_eq}
 use Rattle.std.proofs.lemmas.Bool.{and_parts}
 use Rattle.hp_math.specs.Rational.{ℚ, is_whole}
 use Rattle.hp_base.specs.declared.literal.Name.{Name as Base}
-use Rattle.hp_ast.specs.declared.term.Term.{Term, fold-roll-Term, ind-Term, roll-Term, map-Term}
-use Rattle.hp_ast.specs.declared.term.Term.TheOpen.{Term-F}
-use Rattle.hp_ast.specs.declared.problem.Sort.{Sort}
-use Rattle.hp_ast.specs.declared.problem.Sort.TheVariants.{Num, Idx, Ptr}
+use Rattle.hp_tree.specs.declared.term.Term.{Term, fold-roll-Term, ind-Term, roll-Term, map-Term}
+use Rattle.hp_tree.specs.declared.term.Term.TheOpen.{Term-F}
+use Rattle.hp_tree.specs.declared.problem.Sort.{Sort}
+use Rattle.hp_tree.specs.declared.problem.Sort.TheVariants.{Num, Idx, Ptr}
 use Rattle.hp_sorts.specs.declared.forms.Forms.{Forms}
 use Rattle.hp_sorts.specs.Symbols.{variables}
 use Rattle.hp_sorts.specs.Terms.{difference_forms, first_sort, first_step, forms_step, name_forms, negation_forms, number_forms, sum_forms, term_forms}

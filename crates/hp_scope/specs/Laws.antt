@@ -1,10 +1,10 @@
 -- Problems over constants of sort idx and num, told by the rules on names and sorts: which well-sorted problems ground lines are for.
 use Rattle.std.specs.Prelude.{◌≡◌, ◌⊎◌, ◌↔◌, [], None}
 use Rattle.std.specs.List.{All}
-use Rattle.hp_ast.specs.declared.problem.Sort.TheVariants.{Num, Idx}
-use Rattle.hp_ast.specs.declared.problem.Atom.{Atom}
-use Rattle.hp_ast.specs.declared.problem.Clause.{Clause}
-use Rattle.hp_ast.specs.declared.problem.Problem.{Problem}
+use Rattle.hp_tree.specs.declared.problem.Sort.TheVariants.{Num, Idx}
+use Rattle.hp_tree.specs.declared.problem.Atom.{Atom}
+use Rattle.hp_tree.specs.declared.problem.Clause.{Clause}
+use Rattle.hp_tree.specs.declared.problem.Problem.{Problem}
 use Rattle.hp_sorts.specs.Symbols.{symbols, variables}
 use Rattle.hp_sorts.specs.Terms.{atom_sort}
 use Rattle.hp_sorts.specs.Faults.{sort_fault}

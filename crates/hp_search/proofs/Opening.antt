@@ -1,7 +1,7 @@
 -- What one node more makes of a reading.
 use Rattle.std.proofs.Common.{◌≡◌, ℕ, ◌≤◌, refl, sym, ◌∙◌, ap, subst, arith, List, [], ◌∷◌, ◌++◌, length, length-append, Bool, true, false, replicate, Option}
 use Rattle.hp_base.specs.declared.line.Line.{Line}
-use Rattle.hp_ast.specs.declared.problem.Sort.{Sort}
+use Rattle.hp_tree.specs.declared.problem.Sort.{Sort}
 use Rattle.hp_base.specs.declared.valuation.Valuation.{Valuation}
 use Rattle.hp_leaf.specs.declared.tree.LeafProof.{LeafProof}
 use Rattle.hp_leaf.specs.declared.tree.Node.{Node}

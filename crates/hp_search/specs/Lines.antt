@@ -3,7 +3,7 @@ use Rattle.std.specs.Prelude.{◌≡◌, ℕ, ◌^◌, ◌-◌, ◌≤◌, List,
 use Rattle.std.specs.List.{All}
 use Rattle.hp_math.specs.Rational.{whole}
 use Rattle.hp_num.specs.declared.wide.Wide.{Wide}
-use Rattle.hp_ast.specs.declared.problem.Sort.{Sort}
+use Rattle.hp_tree.specs.declared.problem.Sort.{Sort}
 use Rattle.hp_base.specs.declared.literal.IdxLit.{IdxLit}
 use Rattle.hp_base.specs.declared.literal.Lit.{Lit}
 use Rattle.hp_base.specs.declared.literal.Lit.TheVariants.{Num, Idx, Ptr}

@@ -5,7 +5,7 @@ use Rattle.hp_num.specs.declared.wide.Wide.{Wide}
 use Rattle.hp_base.specs.declared.line.Line.{Line}
 use Rattle.hp_base.specs.declared.literal.Lit.{Lit}
 use Rattle.hp_base.specs.declared.proof.Choice.{Choice}
-use Rattle.hp_ast.specs.declared.problem.Sort.{Sort}
+use Rattle.hp_tree.specs.declared.problem.Sort.{Sort}
 use Rattle.hp_base.specs.declared.valuation.Valuation.{Valuation}
 use Rattle.hp_base.specs.Sorts.{AreOfSorts}
 use Rattle.hp_base.specs.Truth.{IsTrueAt, LineIsTrue}

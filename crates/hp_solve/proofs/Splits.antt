@@ -3,7 +3,7 @@ use Rattle.std.proofs.Common.{ℕ, List, [], ◌∷◌, ◌++◌, length, sym, s
 use Rattle.std.specs.Prelude.{replicate}
 use Rattle.std.specs.List.{All}
 use Rattle.std.proofs.lemmas.List.Elements.{All-nil, All-cons, All-append, All-replicate}
-use Rattle.hp_ast.specs.declared.problem.Sort.{Sort}
+use Rattle.hp_tree.specs.declared.problem.Sort.{Sort}
 use Rattle.hp_base.specs.declared.names.Ground.{Ground}
 use Rattle.hp_leaf.specs.declared.tree.Node.{Node}
 use Rattle.hp_leaf.specs.declared.tree.Node.TheVariants.{Split, Leaf, Unopened}

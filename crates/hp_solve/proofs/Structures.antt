@@ -4,8 +4,8 @@ use Rattle.std.specs.List.{All}
 use Rattle.std.proofs.lemmas.List.{length-map, append-nil}
 use Rattle.std.proofs.lemmas.List.Elements.{All-nil, All-cons, All-head, All-tail}
 use Rattle.hp_math.specs.Rational.{ℚ}
-use Rattle.hp_ast.specs.declared.problem.Problem.{Problem}
-use Rattle.hp_ast.specs.declared.problem.Sort.{Sort}
+use Rattle.hp_tree.specs.declared.problem.Problem.{Problem}
+use Rattle.hp_tree.specs.declared.problem.Sort.{Sort}
 use Rattle.hp_base.specs.declared.line.Def.{Def}
 use Rattle.hp_base.specs.declared.names.Constant.{Constant}
 use Rattle.hp_base.specs.declared.names.Ground.{Ground}

@@ -1,6 +1,6 @@
 -- What a search found, as a verdict on the problem.
 use Rattle.std.proofs.Common.{◌≡◌, List, subst, sym, refl}
-use Rattle.hp_ast.specs.declared.problem.Problem.{Problem}
+use Rattle.hp_tree.specs.declared.problem.Problem.{Problem}
 use Rattle.hp_base.specs.declared.names.Ground.{Ground}
 use Rattle.hp_base.specs.declared.valuation.Valuation.{Valuation}
 use Rattle.hp_base.specs.Names.{sorts}

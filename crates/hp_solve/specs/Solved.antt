@@ -1,7 +1,7 @@
 -- What a verdict says of a problem.
 use Rattle.std.specs.Prelude.{◌≡◌, ℕ, [], Some, None}
 use Rattle.std.specs.List.{All}
-use Rattle.hp_ast.specs.declared.problem.Problem.{Problem}
+use Rattle.hp_tree.specs.declared.problem.Problem.{Problem}
 use Rattle.hp_base.specs.declared.names.Ground.{Ground}
 use Rattle.hp_base.specs.Names.{sorts}
 use Rattle.hp_leaf.specs.Tree.{IsSpent}

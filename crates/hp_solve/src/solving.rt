@@ -8,7 +8,7 @@ ghost use Rattle.hp_ground.specs.Lines.{IsGroundOf};
 ghost use Rattle.hp_norm.specs.Literals.{IsLight};
 ghost use Rattle.hp_solve.specs.Solved.{IsInScope, SolvedAs};
 
-use hp_ast::{Limit, Problem};
+use hp_tree::{Limit, Problem};
 use hp_base::{Constant, Ground, GroundErr, Valuation};
 use hp_cert::{Refutation, entries};
 use hp_descent::Strain;

@@ -1,13 +1,13 @@
 -- The limits of a problem's text: its clauses, the variables of each clause, the arguments of each function.
 use Rattle.std.specs.Prelude.{ℕ, Bool, false, if◌then◌else◌, Option, Some, None, length, nat_lt}
 use Rattle.std.specs.List.{list_any}
-use Rattle.hp_ast.specs.declared.limit.Limit.{Limit}
-use Rattle.hp_ast.specs.declared.limit.Which.{Which}
-use Rattle.hp_ast.specs.declared.limit.Which.TheVariants.{Clauses, Variables, Arguments}
-use Rattle.hp_ast.specs.declared.problem.Clause.{Clause}
-use Rattle.hp_ast.specs.declared.problem.Decl.{Decl}
-use Rattle.hp_ast.specs.declared.problem.Decl.TheVariants.{Const, Fun}
-use Rattle.hp_ast.specs.declared.problem.Problem.{Problem}
+use Rattle.hp_tree.specs.declared.limit.Limit.{Limit}
+use Rattle.hp_tree.specs.declared.limit.Which.{Which}
+use Rattle.hp_tree.specs.declared.limit.Which.TheVariants.{Clauses, Variables, Arguments}
+use Rattle.hp_tree.specs.declared.problem.Clause.{Clause}
+use Rattle.hp_tree.specs.declared.problem.Decl.{Decl}
+use Rattle.hp_tree.specs.declared.problem.Decl.TheVariants.{Const, Fun}
+use Rattle.hp_tree.specs.declared.problem.Problem.{Problem}
 
 abbrev pub limit : Which → ℕ → Limit
 limit which most = record { which = which; most = most; item = 0 }

@@ -2,10 +2,10 @@
 -- the order of their declarations; and the sorts of the variables of a clause.
 use Rattle.std.specs.Prelude.{List, [], ◌∷◌, ◌++◌, Bool, ◌||◌, Option, map}
 use Rattle.std.specs.Option.{option_or}
-use Rattle.hp_ast.specs.declared.problem.Sort.{Sort}
-use Rattle.hp_ast.specs.declared.problem.Var.{Var}
-use Rattle.hp_ast.specs.declared.problem.Decl.{Decl}
-use Rattle.hp_ast.specs.declared.problem.Decl.TheVariants.{Const, Fun}
+use Rattle.hp_tree.specs.declared.problem.Sort.{Sort}
+use Rattle.hp_tree.specs.declared.problem.Var.{Var}
+use Rattle.hp_tree.specs.declared.problem.Decl.{Decl}
+use Rattle.hp_tree.specs.declared.problem.Decl.TheVariants.{Const, Fun}
 use Rattle.hp_sorts.specs.declared.tables.SortTable.{SortTable}
 use Rattle.hp_sorts.specs.declared.tables.Signature.{Signature}
 use Rattle.hp_sorts.specs.declared.tables.Tables.{Tables}

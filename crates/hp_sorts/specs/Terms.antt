@@ -3,13 +3,13 @@ use Rattle.std.specs.Prelude.{ℕ, List, [], ◌∷◌, Bool, true, false, ◌&&
 use Rattle.std.specs.List.{list_all}
 use Rattle.std.specs.Option.{option_or}
 use Rattle.hp_math.specs.Rational.{ℚ, is_whole}
-use Rattle.hp_ast.specs.declared.term.Term.{Term, fold-Term}
-use Rattle.hp_ast.specs.declared.term.Term.TheOpen.{Term-F}
-use Rattle.hp_ast.specs.declared.problem.Sort.{Sort}
-use Rattle.hp_ast.specs.declared.problem.Sort.TheVariants.{Num, Idx, Ptr}
-use Rattle.hp_ast.specs.declared.problem.Cmp.{Cmp}
-use Rattle.hp_ast.specs.declared.problem.Cmp.TheVariants.{Le, Lt, Eq, Ne, Ge, Gt}
-use Rattle.hp_ast.specs.declared.problem.Atom.{Atom}
+use Rattle.hp_tree.specs.declared.term.Term.{Term, fold-Term}
+use Rattle.hp_tree.specs.declared.term.Term.TheOpen.{Term-F}
+use Rattle.hp_tree.specs.declared.problem.Sort.{Sort}
+use Rattle.hp_tree.specs.declared.problem.Sort.TheVariants.{Num, Idx, Ptr}
+use Rattle.hp_tree.specs.declared.problem.Cmp.{Cmp}
+use Rattle.hp_tree.specs.declared.problem.Cmp.TheVariants.{Le, Lt, Eq, Ne, Ge, Gt}
+use Rattle.hp_tree.specs.declared.problem.Atom.{Atom}
 use Rattle.hp_sorts.specs.declared.tables.SortTable.{SortTable}
 use Rattle.hp_sorts.specs.declared.tables.Signature.{Signature}
 use Rattle.hp_sorts.specs.declared.tables.Tables.{Tables}

@@ -8,7 +8,7 @@ use crate::clauses::check_clauses;
 use crate::declarations::declare_all;
 use crate::fault::SortErr;
 use crate::symbols::Symbols;
-use hp_ast::Problem;
+use hp_tree::Problem;
 use std::alloc::Global;
 
 /// What a problem declares, where none of its items breaks a rule. Else the error says which item is the first that

@@ -8,7 +8,7 @@ use crate::fault::SortErr;
 use crate::forms::atoms_are_sorted;
 use crate::naming::{NameRule, atoms_pass};
 use crate::tables::{SortTable, Tables};
-use hp_ast::{Clause, Var};
+use hp_tree::{Clause, Var};
 use std::alloc::Global;
 
 /// Tests the clauses, of which the first has the number behind `before`, up to the first that breaks a rule.

@@ -4,7 +4,7 @@ ghost use Rattle.std.specs.Prelude.{◌≡◌};
 ghost use Rattle.std.specs.List.{list_any};
 ghost use Rattle.hp_sorts.specs.Limits.{passed, limit, has_many_variables, has_many_arguments};
 
-use hp_ast::{Clause, Decl, Limit, Problem, Which};
+use hp_tree::{Clause, Decl, Limit, Problem, Which};
 
 /// The most clauses of a text.
 const MOST_CLAUSES: u64 = 2_000;

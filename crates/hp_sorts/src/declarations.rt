@@ -6,7 +6,7 @@ ghost use Rattle.hp_sorts.specs.Faults.{Answers, is_level, decl_fault, decls_fau
 
 use crate::fault::SortErr;
 use crate::tables::{Signature, Tables};
-use hp_ast::{Decl, Sort};
+use hp_tree::{Decl, Sort};
 use hp_num::{List, Text};
 use std::alloc::{AllocError, Global};
 

@@ -5,7 +5,7 @@ ghost use Rattle.std.specs.List.{list_all};
 ghost use Rattle.hp_sorts.specs.Terms.{name_passes, application_passes, term_passes, atom_passes};
 
 use crate::tables::{SortTable, Tables};
-use hp_ast::{Atom, Term};
+use hp_tree::{Atom, Term};
 use hp_num::Text;
 
 /// A rule on the names of a clause.

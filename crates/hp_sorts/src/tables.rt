@@ -4,7 +4,7 @@ ghost use Rattle.std.specs.Prelude.{◌≡◌, ◌++◌, [], ◌∷◌, false, O
 ghost use Rattle.hp_sorts.specs.Numbered.{is_among, named};
 ghost use Rattle.hp_sorts.specs.Symbols.{no_symbols, is_declared, signature_of, name_sort};
 
-use hp_ast::Sort;
+use hp_tree::Sort;
 use hp_names::NameIndex;
 use hp_num::{List, Text};
 use std::alloc::{AllocError, Global};

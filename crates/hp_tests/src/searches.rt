@@ -4,7 +4,7 @@ ghost use Rattle.std.specs.List.{All};
 ghost use Rattle.hp_base.specs.Names.{sorts};
 ghost use Rattle.hp_search.specs.Lines.{AreBuilt};
 
-use hp_ast::Sort;
+use hp_tree::Sort;
 use hp_base::{
     Choice, Ground, IdxLit, Line, Lit, Name, Names, NumLit, Origin, Part, Rel, Valuation,
 };

@@ -2,7 +2,7 @@
 
 ghost use Rattle.std.specs.Prelude.{◌≡◌, ◌≤◌, ◌⊎◌, IfOk, IfSome, IsErr, IsErrOf, map, string_bytes};
 ghost use Rattle.std.specs.Io.KnownBytes.{Keeps};
-ghost use Rattle.hp_ast.specs.declared.problem.Problem.{Problem};
+ghost use Rattle.hp_tree.specs.declared.problem.Problem.{Problem};
 ghost use Rattle.hp_io.specs.Causes.{Rose};
 ghost use Rattle.hp_cli.specs.Answer.{Fits, IsSettledCode, IsSolving, Told};
 ghost use Rattle.hp_cli.specs.Transfer.{HasEnded, TakesFew};

@@ -1,6 +1,6 @@
 use Rattle.std.proofs.Common.{◌≡◌, ◌∙◌, ◌++◌, ◌+◌, ◌∷◌, [], List, ℕ, true, false, get_or, map, sym, ap, subst, arith}
-use Rattle.hp_ast.specs.declared.problem.Decl.{Decl}
-use Rattle.hp_ast.specs.declared.problem.Decl.TheVariants.{Const}
+use Rattle.hp_tree.specs.declared.problem.Decl.{Decl}
+use Rattle.hp_tree.specs.declared.problem.Decl.TheVariants.{Const}
 use Rattle.hp_names.specs.Names.{Added, AreDistinct, is_among}
 use Rattle.hp_ground.specs.Ground.{IsGroundDecl, decl_name}
 use Rattle.hp_ground.proofs.Declared.{AreNamesSoFar, all_consts, decl_more, decls_more, distinct_names, sort_more, twice_declared}

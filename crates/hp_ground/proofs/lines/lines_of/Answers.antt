@@ -1,6 +1,6 @@
 use Rattle.std.proofs.Common.{Ok, ◌+◌, sym, subst, arith}
 use Rattle.std.proofs.lemmas.List.Elements.{All-get_or}
-use Rattle.hp_ast.specs.declared.problem.Clause.{Clause}
+use Rattle.hp_tree.specs.declared.problem.Clause.{Clause}
 use Rattle.hp_norm.specs.Literals.{IsLightClause}
 use Rattle.hp_ground.specs.Answers.{LineFound}
 use Rattle.hp_ground.proofs.Steps.{LinesSoFar, line_more}

@@ -1,5 +1,5 @@
 use Rattle.std.proofs.Common.{Ok, subst, arith}
-use Rattle.hp_ast.specs.declared.problem.Atom.{Atom}
+use Rattle.hp_tree.specs.declared.problem.Atom.{Atom}
 use Rattle.hp_ground.specs.Lines.{literals_of}
 use Rattle.hp_ground.specs.Answers.{Pushed}
 use Rattle.hp_ground.proofs.Steps.{atom_more}
