@@ -16,10 +16,10 @@ use Rattle.hp_base.specs.declared.literal.Lit.{Lit}
 use Rattle.hp_base.specs.Sorts.{AreOfSorts, IsOfSort}
 use Rattle.hp_base.specs.Truth.{Values, name_value, optional_value, LineIsTrue}
 use Rattle.hp_base.specs.Words.{Agrees}
-use Rattle.hp_model.specs.declared.sides.Side.{Side}
-use Rattle.hp_model.specs.declared.sides.Side.TheVariants.{Guard, Head}
-use Rattle.hp_model.specs.Sides.{asked}
-use Rattle.hp_model.specs.Value.{Names, Functions, atom_is_true, all_true, one_true}
+use Rattle.hp_tree.specs.declared.sides.Side.{Side}
+use Rattle.hp_tree.specs.declared.sides.Side.TheVariants.{Guard, Head}
+use Rattle.hp_tree.specs.Sides.{asked}
+use Rattle.hp_tree.specs.Value.{Names, Functions, atom_is_true, all_true, one_true}
 use Rattle.hp_norm.specs.Forms.{form_of, is_index_term}
 use Rattle.hp_norm.specs.Literals.{atom_literals, is_index_atom}
 use Rattle.hp_norm.specs.Laws.{IsWholeTerm}

@@ -20,8 +20,8 @@ use Rattle.hp_norm.specs.declared.collect.Form.{Form}
 use Rattle.hp_norm.specs.declared.collect.Shape.{Shape}
 use Rattle.hp_norm.specs.declared.collect.Shape.TheVariants.{Number, Sum, Other}
 use Rattle.hp_base.specs.Words.{number}
-use Rattle.hp_model.specs.declared.sides.Side.{Side}
-use Rattle.hp_model.specs.Sides.{taken}
+use Rattle.hp_tree.specs.declared.sides.Side.{Side}
+use Rattle.hp_tree.specs.Sides.{taken}
 use Rattle.hp_norm.specs.Forms.{form_of, shape_form, shape_of, shape_step, shifted, plus_shape, minus_shape, neg_shape, number_shape, named_shape}
 use Rattle.hp_norm.specs.Literals.{atom_literals, cancel, compared, is_index_atom, literals, HasSmallBound}
 use Rattle.hp_ground.specs.declared.consts.Consts.{Consts}

@@ -23,8 +23,10 @@ use Rattle.hp_base.specs.Truth.{Values, LineIsTrue}
 use Rattle.hp_base.specs.Words.{Word, Agrees}
 use Rattle.hp_model.specs.declared.structure.ConstValue.{ConstValue}
 use Rattle.hp_model.specs.declared.structure.Structure.{Structure}
-use Rattle.hp_model.specs.Value.{constant, entry_name, entry_value, functions_of, all_true, one_true}
-use Rattle.hp_model.specs.WellFormed.{Declared, constants, ConstantsFit, is_of_sort}
+use Rattle.hp_model.specs.Value.{constant, entry_name, entry_value, functions_of}
+use Rattle.hp_tree.specs.Value.{all_true, one_true}
+use Rattle.hp_model.specs.WellFormed.{Declared, constants, ConstantsFit}
+use Rattle.hp_tree.specs.Sorted.{is_of_sort}
 use Rattle.hp_model.specs.Satisfies.{Holds}
 use Rattle.hp_model.proofs.Universal.{plain_clauses_hold}
 use Rattle.hp_names.specs.Names.{AreDistinct}

@@ -13,8 +13,8 @@ use Rattle.hp_base.specs.declared.line.Line.{Line}
 use Rattle.hp_base.specs.declared.refusal.Refusal.{Refusal}
 use Rattle.hp_base.specs.declared.refusal.Refusal.TheVariants as refused
 use Rattle.hp_base.proofs.Growing.{begins_more, begins_same, begins_then}
-use Rattle.hp_model.specs.declared.sides.Side.{Side}
-use Rattle.hp_model.specs.declared.sides.Side.TheVariants.{Guard, Head}
+use Rattle.hp_tree.specs.declared.sides.Side.{Side}
+use Rattle.hp_tree.specs.declared.sides.Side.TheVariants.{Guard, Head}
 use Rattle.hp_norm.specs.Literals.{IsLightAtom, atom_literals}
 use Rattle.hp_norm.specs.Answers as index
 use Rattle.hp_linear.specs.Steps.{Refusable, behind}

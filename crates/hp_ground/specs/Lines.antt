@@ -21,8 +21,8 @@ use Rattle.hp_base.specs.declared.names.Ground.{Ground}
 use Rattle.hp_base.specs.Limited.{coefficient, many_names}
 use Rattle.hp_base.specs.Names.{sorts}
 use Rattle.hp_model.specs.WellFormed.{Declared, constants as declarations}
-use Rattle.hp_model.specs.declared.sides.Side.{Side}
-use Rattle.hp_model.specs.declared.sides.Side.TheVariants.{Guard, Head}
+use Rattle.hp_tree.specs.declared.sides.Side.{Side}
+use Rattle.hp_tree.specs.declared.sides.Side.TheVariants.{Guard, Head}
 use Rattle.hp_norm.specs.Forms.{IsSmall}
 use Rattle.hp_norm.specs.Literals.{atom_literals}
 use Rattle.hp_base.specs.declared.refusal.Refusal.TheVariants as refused

@@ -13,7 +13,7 @@ use crate::forms::is_num_atom;
 use hp_tree::{Atom, Clause, Limit, Which};
 use hp_base::{GroundErr, Line, Lit, Origin, Refusal};
 use hp_linear::literals as num_literals;
-use hp_model::Side;
+use hp_tree::Side;
 use hp_norm::literals as idx_literals;
 use hp_num::List;
 use std::alloc::Global;

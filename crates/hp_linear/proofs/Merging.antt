@@ -4,7 +4,7 @@ use Rattle.std.proofs.lemmas.Bool.{lt-ltb, le-ltb}
 use Rattle.std.proofs.lemmas.List.{drop_all, take_all}
 use Rattle.hp_math.specs.Rational.{ℚ, whole, eq_ℚ}
 use Rattle.hp_num.specs.Wide.{◌>>=◌}
-use Rattle.hp_model.proofs.Compares.{eq_ℚ-true, eq_ℚ-from}
+use Rattle.hp_tree.proofs.Compares.{eq_ℚ-true, eq_ℚ-from}
 use Rattle.hp_base.specs.declared.literal.Name.{Name}
 use Rattle.hp_linear.specs.declared.form.Summand.{Summand}
 use Rattle.hp_base.specs.declared.refusal.Refusal.{Refusal}

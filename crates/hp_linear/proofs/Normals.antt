@@ -12,7 +12,7 @@ use Rattle.hp_tree.specs.declared.term.Term.TheOpen.{Term-F}
 use Rattle.hp_base.specs.declared.literal.Name.{Name}
 use Rattle.hp_base.specs.Words.{Word, number}
 use Rattle.hp_base.proofs.Words.{numbered}
-use Rattle.hp_model.proofs.Compares.{eq_ℚ-from}
+use Rattle.hp_tree.proofs.Compares.{eq_ℚ-from}
 use Rattle.hp_linear.specs.declared.form.Summand.{Summand}
 use Rattle.hp_linear.specs.declared.form.Form.{Form}
 use Rattle.hp_linear.specs.Steps.{Refusable, behind}

@@ -12,7 +12,7 @@ use Rattle.hp_base.specs.declared.literal.Name.{Name}
 use Rattle.hp_base.specs.Truth.{Values, name_value}
 use Rattle.hp_base.specs.Words.{Word, Agrees, number}
 use Rattle.hp_base.proofs.Words.{word_value}
-use Rattle.hp_model.specs.Value.{Names, Functions, value, value_step}
+use Rattle.hp_tree.specs.Value.{Names, Functions, value, value_step}
 use Rattle.hp_linear.specs.declared.form.Form.{Form}
 use Rattle.hp_linear.specs.Steps.{Refusable}
 use Rattle.hp_linear.specs.Forms.{copies, form_step, form_with, is_linear, lin_of, linear_step, minus_form, named_form, neg_form, number_form, plus_form, times_form}

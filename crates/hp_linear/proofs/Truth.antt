@@ -10,9 +10,9 @@ use Rattle.hp_base.specs.declared.literal.Rel.{Rel}
 use Rattle.hp_base.specs.declared.literal.Rel.TheVariants as rel
 use Rattle.hp_base.specs.declared.literal.Lit.{Lit}
 use Rattle.hp_base.specs.Truth.{Values, Compares, LineIsTrue}
-use Rattle.hp_model.specs.Value.{compares}
-use Rattle.hp_model.specs.Sides.{asked, taken}
-use Rattle.hp_model.proofs.Compares.{eq_ℚ-from, eq_ℚ-true, le_ℚ-from, less_differs, lt_ℚ-from, more_differs, not_true, one_less, taken_asks}
+use Rattle.hp_tree.specs.Value.{compares}
+use Rattle.hp_tree.specs.Sides.{asked, taken}
+use Rattle.hp_tree.proofs.Compares.{eq_ℚ-from, eq_ℚ-true, le_ℚ-from, less_differs, lt_ℚ-from, more_differs, not_true, one_less, taken_asks}
 use Rattle.hp_linear.specs.declared.form.Form.{Form}
 use Rattle.hp_linear.specs.Forms.{lin_of}
 use Rattle.hp_linear.specs.Literals.{apart_literals, compared, literals, one_literal}

@@ -5,9 +5,9 @@ use Rattle.hp_tree.specs.declared.problem.Atom.{Atom}
 use Rattle.hp_base.specs.declared.literal.Lit.{Lit}
 use Rattle.hp_base.specs.Truth.{Values, LineIsTrue}
 use Rattle.hp_base.specs.Words.{Word, Agrees}
-use Rattle.hp_model.specs.declared.sides.Side.{Side}
-use Rattle.hp_model.specs.Sides.{asked}
-use Rattle.hp_model.specs.Value.{Names, Functions, value, atom_is_true}
+use Rattle.hp_tree.specs.declared.sides.Side.{Side}
+use Rattle.hp_tree.specs.Sides.{asked}
+use Rattle.hp_tree.specs.Value.{Names, Functions, value, atom_is_true}
 use Rattle.hp_linear.specs.declared.form.Form.{Form}
 use Rattle.hp_linear.specs.Forms.{is_linear, lin_of}
 use Rattle.hp_linear.specs.Literals.{num_literals}

@@ -11,8 +11,8 @@ use Rattle.hp_base.specs.declared.literal.Lit.TheVariants.{Num}
 use Rattle.hp_linear.specs.declared.form.Form.{Form}
 use Rattle.hp_linear.specs.declared.wholes.Row.{Row}
 use Rattle.hp_base.specs.Words.{Word}
-use Rattle.hp_model.specs.declared.sides.Side.{Side}
-use Rattle.hp_model.specs.Sides.{taken}
+use Rattle.hp_tree.specs.declared.sides.Side.{Side}
+use Rattle.hp_tree.specs.Sides.{taken}
 use Rattle.hp_linear.specs.Steps.{Refusable}
 use Rattle.hp_linear.specs.Forms.{lin_of, minus_form}
 use Rattle.hp_linear.specs.Wholes.{row_of}

@@ -1,2 +1,1 @@
-pub mod Compares
 pub mod Universal

@@ -2,8 +2,9 @@
 use Rattle.std.proofs.Common.{◌≡◌, ◌||◌, Bool, not, true, List, [], sym, subst}
 use Rattle.hp_math.specs.Rational.{ℚ}
 use Rattle.hp_tree.specs.declared.problem.Var.{Var}
-use Rattle.hp_model.specs.Value.{constant, functions_of, all_true, one_true}
-use Rattle.hp_model.specs.Universal.{AreSorted, assign}
+use Rattle.hp_model.specs.Value.{constant, functions_of}
+use Rattle.hp_tree.specs.Value.{all_true, one_true}
+use Rattle.hp_tree.specs.Universal.{AreSorted, assign}
 use Rattle.hp_model.specs.Laws.{PlainClausesHold}
 
 pub plain_clauses_hold : PlainClausesHold

@@ -5,7 +5,7 @@ use Rattle.hp_tree.specs.declared.problem.Problem.{Problem}
 use Rattle.hp_model.specs.declared.structure.Structure.{Structure}
 use Rattle.hp_model.specs.WellFormed.{WellFormed}
 use Rattle.hp_model.specs.Value.{constant, functions_of}
-use Rattle.hp_model.specs.Universal.{HoldsAll, universal}
+use Rattle.hp_tree.specs.Universal.{HoldsAll, universal}
 
 -- at all values of the variables' sorts; every other name is a constant
 abbrev pub Holds : Structure → Clause → Type 0

@@ -1,4 +1,4 @@
--- The value of a term in a structure.
+-- The values that a structure gives to its constants and functions.
 use Rattle.std.specs.Prelude.{ℕ, zero, suc, List, [], ◌∷◌, Bool, true, false, ◌&&◌, ◌||◌, not, if◌then◌else◌, pos, codes, slice_index_or}
 use Rattle.std.specs.Str.{bytes_eq}
 use Rattle.hp_math.specs.Rational.{ℚ, whole, ◌+ℚ◌, ◌-ℚ◌, ◌*ℚ◌, neg_ℚ, le_ℚ, lt_ℚ, eq_ℚ}
@@ -11,52 +11,8 @@ use Rattle.hp_model.specs.declared.structure.ConstValue.{ConstValue}
 use Rattle.hp_model.specs.declared.structure.Row.{Row}
 use Rattle.hp_model.specs.declared.structure.Table.{Table}
 use Rattle.hp_model.specs.declared.structure.Structure.{Structure}
+use Rattle.hp_tree.specs.Value.{Name, Names, Functions, value, all_true}
 
--- a name is its bytes
-abbrev pub Name : Type 0
-Name = List ℕ
-
--- a value for each name, and for each function a value at each list of values
-abbrev pub Names : Type 0
-Names = Name → ℚ
-
-abbrev pub Functions : Type 0
-Functions = Name → List ℚ → ℚ
-
--- one layer of a term, its parts having the values that are given
-abbrev pub value_step : Names → Functions → Term-F ℚ → ℚ
-value_step names functions (Term-F.Number n) = n
-value_step names functions Term-F.Null = whole (pos 0)
-value_step names functions (Term-F.Name name) = names name
-value_step names functions (Term-F.Apply func args) = functions func args
-value_step names functions (Term-F.Add a b) = a +ℚ b
-value_step names functions (Term-F.Sub a b) = a -ℚ b
-value_step names functions (Term-F.Neg a) = neg_ℚ a
-value_step names functions (Term-F.Scale n a) = n *ℚ a
-
-abbrev pub value : Names → Functions → Term → ℚ
-value names functions = fold-Term ℚ (value_step names functions)
-
-abbrev pub compares : Cmp → ℚ → ℚ → Bool
-compares Le a b = le_ℚ a b
-compares Lt a b = lt_ℚ a b
-compares Eq a b = eq_ℚ a b
-compares Ne a b = not (eq_ℚ a b)
-compares Ge a b = le_ℚ b a
-compares Gt a b = lt_ℚ b a
-
-abbrev pub atom_is_true : Names → Functions → Atom → Bool
-atom_is_true names functions atom = compares atom.cmp (value names functions atom.left) (value names functions atom.right)
-
-abbrev pub all_true : Names → Functions → List Atom → Bool
-all_true names functions [] = true
-all_true names functions (atom ∷ atoms) = atom_is_true names functions atom && all_true names functions atoms
-
-abbrev pub one_true : Names → Functions → List Atom → Bool
-one_true names functions [] = false
-one_true names functions (atom ∷ atoms) = atom_is_true names functions atom || one_true names functions atoms
-
--- ---- a structure
 -- the name and the value of a constant
 abbrev pub entry_name : ConstValue → Name
 entry_name c = c.name

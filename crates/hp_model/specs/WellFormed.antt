@@ -9,7 +9,8 @@ use Rattle.hp_tree.specs.declared.problem.Decl.TheVariants.{Const, Fun}
 use Rattle.hp_tree.specs.declared.problem.Problem.{Problem}
 use Rattle.hp_model.specs.declared.structure.ConstValue.{ConstValue}
 use Rattle.hp_model.specs.declared.structure.Structure.{Structure}
-use Rattle.hp_model.specs.Value.{Name}
+use Rattle.hp_tree.specs.Value.{Name}
+use Rattle.hp_tree.specs.Sorted.{is_of_sort}
 
 pub record Declared : Type 0 where
   pub name : Name
@@ -19,12 +20,6 @@ abbrev pub constants : List Decl → List Declared
 constants [] = []
 constants (Const name sort ∷ ds) = record { name = name; sort = sort } ∷ constants ds
 constants (Fun name args result level ∷ ds) = constants ds
-
--- a value of the sort, in a universe of so many pointers: any fraction, a whole number, a whole number below the size
-abbrev pub is_of_sort : ℕ → Sort → ℚ → Bool
-is_of_sort size Num v = true
-is_of_sort size Idx v = is_whole v
-is_of_sort size Ptr v = is_whole v && le_ℚ (whole (pos 0)) v && lt_ℚ v (whole (pos size))
 
 abbrev pub ConstantsFit : ℕ → List Declared → List ConstValue → Type 0
 ConstantsFit size [] [] = Unit {0}

@@ -13,8 +13,8 @@ use Rattle.hp_norm.specs.declared.collect.Form.{Form}
 use Rattle.hp_norm.specs.declared.collect.Shape.{Shape}
 use Rattle.hp_norm.specs.declared.collect.Shape.TheVariants.{Number, Sum, Other}
 use Rattle.hp_base.specs.Words.{Word}
-use Rattle.hp_model.specs.declared.sides.Side.{Side}
-use Rattle.hp_model.specs.Sides.{taken}
+use Rattle.hp_tree.specs.declared.sides.Side.{Side}
+use Rattle.hp_tree.specs.Sides.{taken}
 use Rattle.hp_norm.specs.Forms.{IsSmall, IsWithin, form_of, largest, shape_form, shape_of, weight}
 use Rattle.hp_norm.specs.Literals.{HasSmallBound, IsLightAtom, atom_literals, compared, literals}
 use Rattle.hp_norm.proofs.Shapes.{ShapeWithin, term-within, within-less, within-more, within-strict, within-zero}

@@ -8,7 +8,7 @@ use Rattle.hp_base.specs.declared.literal.Name.{Name}
 use Rattle.hp_base.specs.Truth.{Values, name_value, optional_value}
 use Rattle.hp_base.specs.Words.{Word, Agrees, number}
 use Rattle.hp_base.proofs.Words.{word_value}
-use Rattle.hp_model.specs.Value.{Names, Functions, value, value_step}
+use Rattle.hp_tree.specs.Value.{Names, Functions, value, value_step}
 use Rattle.hp_norm.specs.declared.collect.Shape.{Shape}
 use Rattle.hp_norm.specs.declared.collect.Shape.TheVariants.{Number, Sum, Other}
 use Rattle.hp_norm.specs.Forms.{is_index_shape, is_index_term, form_of, shape_form, shape_of, shape_step, shifted, plus_shape, minus_shape, neg_shape, number_shape, named_shape}

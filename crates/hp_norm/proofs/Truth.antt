@@ -9,9 +9,9 @@ use Rattle.hp_base.specs.declared.literal.Name.{Name}
 use Rattle.hp_base.specs.declared.literal.Rel.{Rel}
 use Rattle.hp_base.specs.declared.literal.Rel.TheVariants as rel
 use Rattle.hp_base.specs.Truth.{Values, name_value, optional_value, Compares, IdxIsTrue, LineIsTrue}
-use Rattle.hp_model.specs.Sides.{asked, taken}
-use Rattle.hp_model.specs.Value.{compares}
-use Rattle.hp_model.proofs.Compares.{le_ℚ-from, lt_ℚ-from, eq_ℚ-from, eq_ℚ-true, less_differs, more_differs, not_true, one_less, taken_asks}
+use Rattle.hp_tree.specs.Sides.{asked, taken}
+use Rattle.hp_tree.specs.Value.{compares}
+use Rattle.hp_tree.proofs.Compares.{le_ℚ-from, lt_ℚ-from, eq_ℚ-from, eq_ℚ-true, less_differs, more_differs, not_true, one_less, taken_asks}
 use Rattle.hp_norm.specs.declared.collect.Form.{Form}
 use Rattle.hp_norm.specs.Forms.{form_of}
 use Rattle.hp_norm.specs.Literals.{atom_literals, cancel, compared, literals}

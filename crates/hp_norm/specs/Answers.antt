@@ -7,7 +7,7 @@ use Rattle.hp_base.specs.declared.refusal.Refusal.{Refusal}
 use Rattle.hp_base.specs.declared.refusal.Refusal.TheVariants.{Wide, Memory}
 use Rattle.hp_base.specs.Growing.{Begins}
 use Rattle.hp_base.specs.Words.{Word}
-use Rattle.hp_model.specs.declared.sides.Side.{Side}
+use Rattle.hp_tree.specs.declared.sides.Side.{Side}
 use Rattle.hp_norm.specs.Literals.{HasSmallBound, IsLightAtom, atom_literals}
 
 -- literals behind those that are there, which stay at a refusal too

@@ -5,9 +5,9 @@ use Rattle.hp_tree.specs.declared.term.Term.{Term}
 use Rattle.hp_tree.specs.declared.problem.Atom.{Atom}
 use Rattle.hp_base.specs.Truth.{Values, LineIsTrue, optional_value}
 use Rattle.hp_base.specs.Words.{Word, Agrees}
-use Rattle.hp_model.specs.declared.sides.Side.{Side}
-use Rattle.hp_model.specs.Sides.{asked}
-use Rattle.hp_model.specs.Value.{Names, Functions, atom_is_true, value}
+use Rattle.hp_tree.specs.declared.sides.Side.{Side}
+use Rattle.hp_tree.specs.Sides.{asked}
+use Rattle.hp_tree.specs.Value.{Names, Functions, atom_is_true, value}
 use Rattle.hp_norm.specs.Forms.{form_of, is_index_term}
 use Rattle.hp_norm.specs.Literals.{atom_literals}
 use Rattle.hp_norm.specs.Values.{form_value}

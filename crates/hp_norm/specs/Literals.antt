@@ -14,8 +14,8 @@ use Rattle.hp_tree.specs.declared.problem.Clause.{Clause}
 use Rattle.hp_tree.specs.declared.problem.Problem.{Problem}
 use Rattle.hp_norm.specs.declared.collect.Form.{Form}
 use Rattle.hp_base.specs.Words.{Word}
-use Rattle.hp_model.specs.declared.sides.Side.{Side}
-use Rattle.hp_model.specs.Sides.{taken}
+use Rattle.hp_tree.specs.declared.sides.Side.{Side}
+use Rattle.hp_tree.specs.Sides.{taken}
 use Rattle.hp_norm.specs.declared.collect.Shape.{Shape}
 use Rattle.hp_norm.specs.Forms.{IsSmall, form_of, is_index_shape, largest, shape_form, shape_of, weight}
 

@@ -10,7 +10,7 @@ ghost use Rattle.hp_norm.specs.Answers.{AtomPushed, Pushed};
 use crate::collect::{Form, Shape, collect, small};
 use hp_tree::{Atom, Cmp};
 use hp_base::{IdxLit, Lit, Name, Refusal, Rel};
-use hp_model::{Side, taken};
+use hp_tree::{Side, taken};
 use hp_names::NameIndex;
 use hp_num::List;
 

@@ -8,10 +8,10 @@ use Rattle.hp_math.proofs.Rational.{ratio-parts}
 use Rattle.hp_math.proofs.Field.{≤ℚ_refl, ≤ℚ_antisym, <ℚ_irrefl, le_ℚ-true, le_ℚ-false, lt_ℚ-true, lt_ℚ-false}
 use Rattle.hp_tree.specs.declared.problem.Cmp.{Cmp}
 use Rattle.hp_tree.specs.declared.problem.Cmp.TheVariants.{Le, Lt, Eq, Ne, Ge, Gt}
-use Rattle.hp_model.specs.declared.sides.Side.{Side}
-use Rattle.hp_model.specs.declared.sides.Side.TheVariants.{Guard, Head}
-use Rattle.hp_model.specs.Value.{compares}
-use Rattle.hp_model.specs.Sides.{asked, negated, taken}
+use Rattle.hp_tree.specs.declared.sides.Side.{Side}
+use Rattle.hp_tree.specs.declared.sides.Side.TheVariants.{Guard, Head}
+use Rattle.hp_tree.specs.Value.{compares}
+use Rattle.hp_tree.specs.Sides.{asked, negated, taken}
 
 is_false : (a : Bool) → (a ≡ true → ⊥) → a ≡ false
 is_false true h = absurd (h refl)

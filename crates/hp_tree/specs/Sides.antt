@@ -2,8 +2,8 @@
 use Rattle.std.specs.Prelude.{Bool, not}
 use Rattle.hp_tree.specs.declared.problem.Cmp.{Cmp}
 use Rattle.hp_tree.specs.declared.problem.Cmp.TheVariants.{Le, Lt, Eq, Ne, Ge, Gt}
-use Rattle.hp_model.specs.declared.sides.Side.{Side}
-use Rattle.hp_model.specs.declared.sides.Side.TheVariants.{Guard, Head}
+use Rattle.hp_tree.specs.declared.sides.Side.{Side}
+use Rattle.hp_tree.specs.declared.sides.Side.TheVariants.{Guard, Head}
 
 -- the relation that holds where this one does not
 abbrev pub negated : Cmp → Cmp

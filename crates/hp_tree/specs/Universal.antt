@@ -5,8 +5,8 @@ use Rattle.hp_math.specs.Rational.{ℚ}
 use Rattle.hp_tree.specs.declared.problem.Var.{Var}
 use Rattle.hp_tree.specs.declared.problem.Atom.{Atom}
 use Rattle.hp_tree.specs.declared.problem.Clause.{Clause}
-use Rattle.hp_model.specs.WellFormed.{is_of_sort}
-use Rattle.hp_model.specs.Value.{Names, Functions, all_true, one_true}
+use Rattle.hp_tree.specs.Sorted.{is_of_sort}
+use Rattle.hp_tree.specs.Value.{Names, Functions, all_true, one_true}
 
 pub record Universal : Type 0 where
   pub vars : List Var

@@ -1,9 +1,9 @@
 //! The part of a clause that an atom stands in, and the relation that it asks for there.
 
 ghost use Rattle.std.specs.Prelude.{◌≡◌};
-ghost use Rattle.hp_model.specs.Sides.{negated, taken};
+ghost use Rattle.hp_tree.specs.Sides.{negated, taken};
 
-use hp_tree::Cmp;
+use crate::problem::Cmp;
 
 /// The part of a clause that an atom stands in. An atom of the guard stands for its negation.
 #[derive(Clone, Copy)]

@@ -1,0 +1,4 @@
+pub mod Value
+pub mod Sorted
+pub mod Sides
+pub mod Universal
