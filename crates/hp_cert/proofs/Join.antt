@@ -1,9 +1,9 @@
 -- One more piece at the end of a text whose first piece is put in another way.
 use Rattle.std.proofs.Common.{◌≡◌, ℕ, zero, suc, ◌+◌, ◌<◌, List, [], ◌∷◌, ◌++◌, take, length, get_or, arith, ap, ◌∙◌, append_assoc, append-nil, add-one, refl}
 use Rattle.std.specs.List.{flat_map, join_by}
-use Rattle.hp_base.specs.declared.literal.Lit.{Lit}
-use Rattle.hp_base.specs.declared.literal.Part.{Part}
-use Rattle.hp_base.specs.Names.{NameList}
+use Rattle.hp_lit.specs.declared.literal.Lit.{Lit}
+use Rattle.hp_lit.specs.declared.literal.Part.{Part}
+use Rattle.hp_defs.specs.Names.{NameList}
 use Rattle.hp_cert.specs.Forms.{by_place, first_part, further_part, parts_text}
 use Rattle.hp_cert.specs.Literals.{lit_text}
 use Rattle.hp_cert.specs.Lines.{lits_text}

@@ -8,24 +8,24 @@ use Rattle.std.proofs.lemmas.List.Elements.{All-nil, All-cons, All-append}
 use Rattle.std.proofs.lemmas.Option.{slice_get_within, get_or_from_slice_get}
 use Rattle.hp_math.specs.Rational.{ℚ, is_whole}
 use Rattle.hp_ast.specs.Printing.{frac_text}
-use Rattle.hp_base.specs.declared.literal.Name.{Name}
-use Rattle.hp_base.specs.declared.literal.Part.{Part}
-use Rattle.hp_base.specs.declared.literal.Rel.{Rel}
-use Rattle.hp_base.specs.declared.literal.Rel.TheVariants.{Le, Lt, Eq}
-use Rattle.hp_base.specs.declared.literal.Lit.{Lit}
-use Rattle.hp_base.specs.declared.literal.Lit.TheVariants.{Num, Idx, Ptr}
-use Rattle.hp_base.specs.declared.line.LinPart.{LinPart}
-use Rattle.hp_base.specs.declared.line.Arg.{Arg}
-use Rattle.hp_base.specs.declared.line.Arg.TheVariants.{Number, Named, Index, Null}
-use Rattle.hp_base.specs.declared.line.Body.{Body}
-use Rattle.hp_base.specs.declared.line.Body.TheVariants.{Apply, Sum}
-use Rattle.hp_base.specs.declared.line.Def.{Def}
-use Rattle.hp_base.specs.declared.line.Line.{Line}
-use Rattle.hp_base.specs.declared.line.Origin.{Origin}
-use Rattle.hp_base.specs.declared.line.Origin.TheVariants.{Ground as FromGround, At, Equal, SumOf}
-use Rattle.hp_base.specs.declared.names.Constant.{Constant}
-use Rattle.hp_base.specs.declared.names.Ground.{Ground}
-use Rattle.hp_base.specs.Names.{NameList}
+use Rattle.hp_lit.specs.declared.literal.Name.{Name}
+use Rattle.hp_lit.specs.declared.literal.Part.{Part}
+use Rattle.hp_lit.specs.declared.literal.Rel.{Rel}
+use Rattle.hp_lit.specs.declared.literal.Rel.TheVariants.{Le, Lt, Eq}
+use Rattle.hp_lit.specs.declared.literal.Lit.{Lit}
+use Rattle.hp_lit.specs.declared.literal.Lit.TheVariants.{Num, Idx, Ptr}
+use Rattle.hp_lit.specs.declared.line.LinPart.{LinPart}
+use Rattle.hp_lit.specs.declared.line.Arg.{Arg}
+use Rattle.hp_lit.specs.declared.line.Arg.TheVariants.{Number, Named, Index, Null}
+use Rattle.hp_lit.specs.declared.line.Body.{Body}
+use Rattle.hp_lit.specs.declared.line.Body.TheVariants.{Apply, Sum}
+use Rattle.hp_lit.specs.declared.line.Def.{Def}
+use Rattle.hp_lit.specs.declared.line.Line.{Line}
+use Rattle.hp_lit.specs.declared.line.Origin.{Origin}
+use Rattle.hp_lit.specs.declared.line.Origin.TheVariants.{Ground as FromGround, At, Equal, SumOf}
+use Rattle.hp_defs.specs.declared.names.Constant.{Constant}
+use Rattle.hp_defs.specs.declared.names.Ground.{Ground}
+use Rattle.hp_defs.specs.Names.{NameList}
 use Rattle.hp_cert.specs.Forms.{constant_or_made, name_text, first_sign, further_sign, magnitude_text, multiple_text, rest_text, by_place, first_multiple, further_multiple, first_part, further_part, parts_text, first_summand, further_summand, sum_text, index_text, arg_text}
 use Rattle.hp_cert.specs.Literals.{relation_text, difference_text, bound_sign, pointer_text, same_sign, lit_text}
 use Rattle.hp_cert.specs.Lines.{origin_text, lits_text, full_line_text, line_text, function_name, body_text, full_def_text, def_text}

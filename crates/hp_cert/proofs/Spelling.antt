@@ -5,24 +5,24 @@ use Rattle.std.proofs.lemmas.Int.{ints}
 use Rattle.std.proofs.lemmas.List.{length-map}
 use Rattle.std.proofs.lemmas.List.Elements.{All-nil, All-cons, All-append, All-contains, All-map, All-replicate, All-weaker, Contains-append_left}
 use Rattle.std.proofs.lemmas.Option.{slice_get_within}
-use Rattle.hp_base.specs.declared.line.Line.{Line}
-use Rattle.hp_base.specs.declared.literal.Name.{Name}
-use Rattle.hp_base.specs.declared.literal.IdxLit.{IdxLit}
-use Rattle.hp_base.specs.declared.literal.Lit.{Lit}
-use Rattle.hp_base.specs.declared.literal.Lit.TheVariants.{Num, Idx, Ptr}
-use Rattle.hp_base.specs.declared.names.Ground.{Ground}
-use Rattle.hp_base.specs.Names.{NameList}
-use Rattle.hp_base.specs.declared.proof.Choice.{Choice}
-use Rattle.hp_base.specs.declared.proof.Share.{Share}
-use Rattle.hp_base.specs.declared.proof.Step.{Step}
-use Rattle.hp_base.specs.Cycle.{IsLit, AreRowsOf, bound_sum}
-use Rattle.hp_base.specs.Leaf.{Taken, AreTaken, sum_bound, HasStrict}
+use Rattle.hp_lit.specs.declared.line.Line.{Line}
+use Rattle.hp_lit.specs.declared.literal.Name.{Name}
+use Rattle.hp_lit.specs.declared.literal.IdxLit.{IdxLit}
+use Rattle.hp_lit.specs.declared.literal.Lit.{Lit}
+use Rattle.hp_lit.specs.declared.literal.Lit.TheVariants.{Num, Idx, Ptr}
+use Rattle.hp_defs.specs.declared.names.Ground.{Ground}
+use Rattle.hp_defs.specs.Names.{NameList}
+use Rattle.hp_lit.specs.declared.proof.Choice.{Choice}
+use Rattle.hp_lit.specs.declared.proof.Share.{Share}
+use Rattle.hp_lit.specs.declared.proof.Step.{Step}
+use Rattle.hp_lit.specs.Cycle.{IsLit, AreRowsOf, bound_sum}
+use Rattle.hp_lit.specs.Leaf.{Taken, AreTaken, sum_bound, HasStrict}
 use Rattle.hp_leaf.specs.declared.tree.LeafProof.{LeafProof}
 use Rattle.hp_leaf.specs.declared.tree.LeafProof.TheVariants as leaf
 use Rattle.hp_leaf.specs.declared.tree.Node.{Node}
 use Rattle.hp_leaf.specs.declared.tree.Node.TheVariants.{Split, Leaf, Unopened}
 use Rattle.hp_leaf.specs.Leaf.{IsValid}
-use Rattle.hp_leaf.specs.Pointers.{JoinsAll}
+use Rattle.hp_lit.specs.Pointers.{JoinsAll}
 use Rattle.hp_leaf.specs.Tree.{lits_at, lit_at, Place, place_lits, children, Reads, Any}
 use Rattle.hp_cert.specs.declared.refutation.Entry.{Entry}
 use Rattle.hp_cert.specs.declared.refutation.Refutation.{Refutation}

@@ -1,8 +1,8 @@
 -- What a refutation lists of a ground problem: all its definitions, and the lines that the tree splits.
 use Rattle.std.specs.Prelude.{◌≡◌, ℕ, zero, suc, ◌<◌, ◌-◌, ◌↔◌, List, [], ◌∷◌, ◌++◌, map, length, Bool, true, false, if◌then◌else◌, slice_set, slice_index_or}
 use Rattle.std.specs.List.{All, Contains}
-use Rattle.hp_base.specs.declared.names.Ground.{Ground}
-use Rattle.hp_base.specs.Names.{NameList}
+use Rattle.hp_defs.specs.declared.names.Ground.{Ground}
+use Rattle.hp_defs.specs.Names.{NameList}
 use Rattle.hp_leaf.specs.declared.tree.Node.{Node}
 use Rattle.hp_leaf.specs.declared.tree.Node.TheVariants.{Split, Leaf, Unopened}
 use Rattle.hp_leaf.specs.Tree.{IsLine}

@@ -4,14 +4,14 @@ use Rattle.std.specs.List.{flat_map}
 use Rattle.std.specs.Fmt.{decimal, signed_decimal}
 use Rattle.hp_math.specs.Rational.{ℚ}
 use Rattle.hp_ast.specs.Printing.{frac_text}
-use Rattle.hp_base.specs.declared.literal.Name.{Name}
-use Rattle.hp_base.specs.declared.literal.Part.{Part}
-use Rattle.hp_base.specs.declared.line.LinPart.{LinPart}
-use Rattle.hp_base.specs.declared.line.Lin.{Lin}
-use Rattle.hp_base.specs.declared.line.Arg.{Arg}
-use Rattle.hp_base.specs.declared.line.Arg.TheVariants.{Number, Named, Index, Null}
-use Rattle.hp_base.specs.declared.names.Constant.{Constant}
-use Rattle.hp_base.specs.Names.{NameList}
+use Rattle.hp_lit.specs.declared.literal.Name.{Name}
+use Rattle.hp_lit.specs.declared.literal.Part.{Part}
+use Rattle.hp_lit.specs.declared.line.LinPart.{LinPart}
+use Rattle.hp_lit.specs.declared.line.Lin.{Lin}
+use Rattle.hp_lit.specs.declared.line.Arg.{Arg}
+use Rattle.hp_lit.specs.declared.line.Arg.TheVariants.{Number, Named, Index, Null}
+use Rattle.hp_defs.specs.declared.names.Constant.{Constant}
+use Rattle.hp_defs.specs.Names.{NameList}
 
 -- ---- names
 

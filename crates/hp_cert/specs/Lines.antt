@@ -2,16 +2,16 @@
 use Rattle.std.specs.Prelude.{ℕ, ◌-◌, List, [], ◌∷◌, ◌++◌, codes, Option, Some, None, slice_get}
 use Rattle.std.specs.List.{join_by}
 use Rattle.std.specs.Fmt.{decimal}
-use Rattle.hp_base.specs.declared.literal.Lit.{Lit}
-use Rattle.hp_base.specs.declared.line.Line.{Line}
-use Rattle.hp_base.specs.declared.line.Origin.{Origin}
-use Rattle.hp_base.specs.declared.line.Origin.TheVariants.{Ground as FromGround, At, Equal, SumOf}
-use Rattle.hp_base.specs.declared.line.Body.{Body}
-use Rattle.hp_base.specs.declared.line.Body.TheVariants.{Apply, Sum}
-use Rattle.hp_base.specs.declared.line.Def.{Def}
-use Rattle.hp_base.specs.declared.names.Signature.{Signature}
-use Rattle.hp_base.specs.declared.names.Ground.{Ground}
-use Rattle.hp_base.specs.Names.{NameList}
+use Rattle.hp_lit.specs.declared.literal.Lit.{Lit}
+use Rattle.hp_lit.specs.declared.line.Line.{Line}
+use Rattle.hp_lit.specs.declared.line.Origin.{Origin}
+use Rattle.hp_lit.specs.declared.line.Origin.TheVariants.{Ground as FromGround, At, Equal, SumOf}
+use Rattle.hp_lit.specs.declared.line.Body.{Body}
+use Rattle.hp_lit.specs.declared.line.Body.TheVariants.{Apply, Sum}
+use Rattle.hp_lit.specs.declared.line.Def.{Def}
+use Rattle.hp_defs.specs.declared.names.Signature.{Signature}
+use Rattle.hp_defs.specs.declared.names.Ground.{Ground}
+use Rattle.hp_defs.specs.Names.{NameList}
 use Rattle.hp_cert.specs.Forms.{name_text, arg_text, lin_text}
 use Rattle.hp_cert.specs.Literals.{lit_text}
 

@@ -1,12 +1,12 @@
 -- The texts of literals.
 use Rattle.std.specs.Prelude.{ℕ, Bool, true, false, List, ◌++◌, codes, Option, Some, None}
 use Rattle.std.specs.Fmt.{signed_decimal}
-use Rattle.hp_base.specs.declared.literal.Name.{Name}
-use Rattle.hp_base.specs.declared.literal.Rel.{Rel}
-use Rattle.hp_base.specs.declared.literal.Rel.TheVariants.{Le, Lt, Eq}
-use Rattle.hp_base.specs.declared.literal.Lit.{Lit}
-use Rattle.hp_base.specs.declared.literal.Lit.TheVariants.{Num, Idx, Ptr}
-use Rattle.hp_base.specs.Names.{NameList}
+use Rattle.hp_lit.specs.declared.literal.Name.{Name}
+use Rattle.hp_lit.specs.declared.literal.Rel.{Rel}
+use Rattle.hp_lit.specs.declared.literal.Rel.TheVariants.{Le, Lt, Eq}
+use Rattle.hp_lit.specs.declared.literal.Lit.{Lit}
+use Rattle.hp_lit.specs.declared.literal.Lit.TheVariants.{Num, Idx, Ptr}
+use Rattle.hp_defs.specs.Names.{NameList}
 use Rattle.hp_cert.specs.Forms.{name_text, parts_text}
 
 abbrev pub relation_text : Rel → List ℕ

@@ -1,19 +1,19 @@
 -- Ground problems whose lines and definitions speak of their own names and functions alone.
 use Rattle.std.specs.Prelude.{◌<◌, length, Option, Some, None}
 use Rattle.std.specs.List.{All}
-use Rattle.hp_base.specs.declared.literal.Name.{Name}
-use Rattle.hp_base.specs.declared.literal.Lit.{Lit}
-use Rattle.hp_base.specs.declared.literal.Lit.TheVariants.{Num, Idx, Ptr}
-use Rattle.hp_base.specs.declared.line.Arg.{Arg}
-use Rattle.hp_base.specs.declared.line.Arg.TheVariants.{Number, Named, Index, Null}
-use Rattle.hp_base.specs.declared.line.Line.{Line}
-use Rattle.hp_base.specs.declared.line.Origin.{Origin}
-use Rattle.hp_base.specs.declared.line.Origin.TheVariants.{Ground as FromGround, At, Equal, SumOf}
-use Rattle.hp_base.specs.declared.line.Body.{Body}
-use Rattle.hp_base.specs.declared.line.Body.TheVariants.{Apply, Sum}
-use Rattle.hp_base.specs.declared.line.Def.{Def}
-use Rattle.hp_base.specs.declared.names.Ground.{Ground}
-use Rattle.hp_base.specs.Names.{NameList, sorts}
+use Rattle.hp_lit.specs.declared.literal.Name.{Name}
+use Rattle.hp_lit.specs.declared.literal.Lit.{Lit}
+use Rattle.hp_lit.specs.declared.literal.Lit.TheVariants.{Num, Idx, Ptr}
+use Rattle.hp_lit.specs.declared.line.Arg.{Arg}
+use Rattle.hp_lit.specs.declared.line.Arg.TheVariants.{Number, Named, Index, Null}
+use Rattle.hp_lit.specs.declared.line.Line.{Line}
+use Rattle.hp_lit.specs.declared.line.Origin.{Origin}
+use Rattle.hp_lit.specs.declared.line.Origin.TheVariants.{Ground as FromGround, At, Equal, SumOf}
+use Rattle.hp_lit.specs.declared.line.Body.{Body}
+use Rattle.hp_lit.specs.declared.line.Body.TheVariants.{Apply, Sum}
+use Rattle.hp_lit.specs.declared.line.Def.{Def}
+use Rattle.hp_defs.specs.declared.names.Ground.{Ground}
+use Rattle.hp_defs.specs.Names.{NameList, sorts}
 
 abbrev pub IsName : NameList → Name → Type 0
 IsName names name = name.0 < length (sorts names)

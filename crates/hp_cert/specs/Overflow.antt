@@ -5,7 +5,7 @@ use Rattle.std.specs.Fmt.{decimal, signed_decimal}
 use Rattle.hp_num.specs.declared.wide.Op.{Op}
 use Rattle.hp_num.specs.declared.wide.Op.TheVariants.{Times, Plus, Minus}
 use Rattle.hp_num.specs.declared.wide.Wide.{Wide}
-use Rattle.hp_base.specs.declared.proof.Choice.{Choice}
+use Rattle.hp_lit.specs.declared.proof.Choice.{Choice}
 use Rattle.hp_descent.specs.declared.answer.At.{At}
 use Rattle.hp_descent.specs.declared.answer.At.TheVariants.{Row, Point, Literal}
 use Rattle.hp_descent.specs.declared.answer.Form.{Form}

@@ -2,15 +2,15 @@
 use Rattle.std.specs.Prelude.{◌≡◌, ◌≢◌, ℕ, ◌<◌, ◌≤◌, ◌^◌, List, [], ◌∷◌, ◌++◌, length, map, pos, unsigned_abs, slice_get}
 use Rattle.std.specs.List.{All}
 use Rattle.std.proofs.Math.ListN.{replicate}
-use Rattle.hp_base.specs.declared.line.Line.{Line}
-use Rattle.hp_base.specs.declared.proof.Share.{Share}
-use Rattle.hp_base.specs.declared.proof.Step.{Step}
-use Rattle.hp_base.specs.declared.names.Constant.{Constant}
-use Rattle.hp_base.specs.declared.line.Body.{Body}
-use Rattle.hp_base.specs.declared.line.Body.TheVariants.{Apply, Sum}
-use Rattle.hp_base.specs.declared.line.Def.{Def}
-use Rattle.hp_base.specs.Names.{NameList}
-use Rattle.hp_base.specs.Leaf.{IsRising}
+use Rattle.hp_lit.specs.declared.line.Line.{Line}
+use Rattle.hp_lit.specs.declared.proof.Share.{Share}
+use Rattle.hp_lit.specs.declared.proof.Step.{Step}
+use Rattle.hp_defs.specs.declared.names.Constant.{Constant}
+use Rattle.hp_lit.specs.declared.line.Body.{Body}
+use Rattle.hp_lit.specs.declared.line.Body.TheVariants.{Apply, Sum}
+use Rattle.hp_lit.specs.declared.line.Def.{Def}
+use Rattle.hp_defs.specs.Names.{NameList}
+use Rattle.hp_lit.specs.Leaf.{IsRising}
 use Rattle.hp_leaf.specs.declared.tree.LeafProof.{LeafProof}
 use Rattle.hp_leaf.specs.declared.tree.LeafProof.TheVariants.{Num, Idx, Ptr}
 use Rattle.hp_leaf.specs.declared.tree.Node.{Node}

@@ -2,8 +2,8 @@
 use Rattle.std.specs.Prelude.{ℕ, Bool, true, false, List, ◌++◌, codes}
 use Rattle.std.specs.List.{flat_map}
 use Rattle.std.specs.Fmt.{decimal, signed_decimal}
-use Rattle.hp_base.specs.declared.proof.Share.{Share}
-use Rattle.hp_base.specs.declared.proof.Step.{Step}
+use Rattle.hp_lit.specs.declared.proof.Share.{Share}
+use Rattle.hp_lit.specs.declared.proof.Step.{Step}
 use Rattle.hp_leaf.specs.declared.tree.LeafProof.{LeafProof}
 use Rattle.hp_leaf.specs.declared.tree.LeafProof.TheVariants.{Num, Idx, Ptr}
 use Rattle.hp_leaf.specs.declared.tree.Node.{Node}

@@ -9,7 +9,8 @@ ghost use Rattle.std.specs.List.{join_by};
 ghost use Rattle.hp_cert.specs.Forms.{arg_text, by_place, first_multiple, first_part, first_sign, first_summand, further_multiple, further_part, further_sign, further_summand, index_text, lin_text, magnitude_text, multiple_text, name_text, parts_text, rest_text};
 
 use hp_ast::put_frac;
-use hp_base::{Arg, Lin, LinPart, Name, Names, Part};
+use hp_defs::Names;
+use hp_lit::{Arg, Lin, LinPart, Name, Part};
 use hp_num::Text;
 use hp_text::{put_text, put_whole};
 use itoa::Buffer;

@@ -2,14 +2,15 @@
 //! What each text is, is said on the data alone, in `specs/Lines.antt`.
 
 ghost use Rattle.std.specs.Prelude.{◌≡◌, ◌++◌, ◌+◌, ◌-◌, ◌<◌, ◌≤◌, length, IfOk, OnOk};
-ghost use Rattle.hp_base.specs.Names.{sorts};
+ghost use Rattle.hp_defs.specs.Names.{sorts};
 ghost use Rattle.hp_leaf.specs.Tree.{IsLine};
 ghost use Rattle.hp_cert.specs.Lines.{body_text, def_text, line_text, origin_text};
 ghost use Rattle.hp_cert.specs.Named.{BodyIsNamed, GroundIsNamed};
 
 use crate::forms::{put_args, put_lin, put_name};
 use crate::literals::put_lits;
-use hp_base::{Body, Ground, Name, Names, Origin};
+use hp_defs::{Ground, Names};
+use hp_lit::{Body, Name, Origin};
 use hp_num::Text;
 use hp_text::{put_text, put_whole};
 use std::alloc::{AllocError, Global};

@@ -12,7 +12,7 @@ ghost use Rattle.hp_cert.specs.Spelled.{AreOnOneLine, HasNumber, IsReading, IsSp
 
 use crate::ground::{body_text, line_text};
 use crate::refutation::{Entry, Refutation};
-use hp_base::{Ground, Names};
+use hp_defs::{Ground, Names};
 use hp_leaf::Node;
 use hp_num::List;
 use std::alloc::{AllocError, Global};

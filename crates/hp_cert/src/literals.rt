@@ -8,7 +8,8 @@ ghost use Rattle.hp_cert.specs.Literals.{bound_sign, difference_text, lit_text, 
 ghost use Rattle.hp_cert.specs.Lines.{lits_text};
 
 use crate::forms::{put_name, put_parts};
-use hp_base::{Lit, Name, Names, Rel};
+use hp_defs::Names;
+use hp_lit::{Lit, Name, Rel};
 use hp_num::Text;
 use hp_text::{put_text, put_whole};
 use std::alloc::AllocError;

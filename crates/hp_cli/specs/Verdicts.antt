@@ -5,8 +5,8 @@ use Rattle.hp_tree.specs.declared.limit.Limit.{Limit}
 use Rattle.hp_tree.specs.declared.limit.Which.TheVariants.{Bytes}
 use Rattle.hp_tree.specs.declared.problem.Problem.{Problem}
 use Rattle.hp_ast.specs.Printing.{problem_text}
-use Rattle.hp_base.specs.declared.names.Ground.{Ground}
-use Rattle.hp_base.specs.Names.{sorts}
+use Rattle.hp_defs.specs.declared.names.Ground.{Ground}
+use Rattle.hp_defs.specs.Names.{sorts}
 use Rattle.hp_grammar.specs.declared.fault.ReadErr.{ReadErr}
 use Rattle.hp_grammar.specs.declared.fault.ReadErr.TheVariants.{Memory as memory}
 use Rattle.hp_grammar.specs.Spells.{Spells, IsFault}

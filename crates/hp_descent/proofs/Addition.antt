@@ -12,11 +12,11 @@ use Rattle.hp_math.proofs.Field.{+ℚ_assoc, +ℚ_comm, +ℚ_zero, ≤ℚ_refl, 
 use Rattle.hp_math.proofs.Laws.{≤ℚ_of_<ℚ}
 use Rattle.hp_num.specs.Wide.{◌>>=◌, mul_of, add_of}
 use Rattle.hp_num.proofs.Given.{came, mul_gave, add_gave}
-use Rattle.hp_base.specs.declared.literal.Rel.{Rel}
-use Rattle.hp_base.specs.declared.literal.Rel.TheVariants.{Le, Lt, Eq}
-use Rattle.hp_base.specs.declared.literal.Part.{Part}
-use Rattle.hp_base.specs.declared.literal.NumLit.{NumLit}
-use Rattle.hp_base.specs.Truth.{Values, name_value, parts_value, Compares, NumIsTrue}
+use Rattle.hp_lit.specs.declared.literal.Rel.{Rel}
+use Rattle.hp_lit.specs.declared.literal.Rel.TheVariants.{Le, Lt, Eq}
+use Rattle.hp_lit.specs.declared.literal.Part.{Part}
+use Rattle.hp_lit.specs.declared.literal.NumLit.{NumLit}
+use Rattle.hp_lit.specs.Truth.{Values, name_value, parts_value, Compares, NumIsTrue}
 use Rattle.hp_descent.specs.Values.{add_product, sum_at, exact_sum, Stands, is_met}
 
 -- a narrow number is its own image in 128 bits

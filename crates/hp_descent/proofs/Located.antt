@@ -4,8 +4,8 @@ use Rattle.std.specs.List.{All}
 use Rattle.std.proofs.lemmas.List.Elements.{All-cons, All-nil}
 use Rattle.std.specs.declared.cmp.Ordering.{Ordering}
 use Rattle.hp_math.specs.Rational.{ℚ, whole}
-use Rattle.hp_base.specs.declared.literal.NumLit.{NumLit}
-use Rattle.hp_base.specs.declared.valuation.NameValue.{NameValue}
+use Rattle.hp_lit.specs.declared.literal.NumLit.{NumLit}
+use Rattle.hp_lit.specs.declared.valuation.NameValue.{NameValue}
 use Rattle.hp_rows.specs.declared.row.Row.{Row}
 use Rattle.hp_rows.specs.declared.answer.Located.{Located}
 use Rattle.hp_rows.specs.Rows.{IsChain, HoldsBelow}

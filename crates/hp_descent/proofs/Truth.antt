@@ -9,14 +9,14 @@ use Rattle.hp_math.specs.Rational.{ℚ, ratio, whole, ◌+ℚ◌, ◌*ℚ◌, ne
 use Rattle.hp_math.proofs.Whole.{+ℤ-*ℤ}
 use Rattle.hp_math.proofs.Field.{by_common1, by_common2, by_common3, at_one, fractions, whole_at, whole_times_at, +ℚ_comm, +ℚ_assoc, +ℚ_zero, *ℚ_comm, *ℚ_assoc, *ℚ-+ℚ, cases_ℚ, *ℚ_mono, ≤ℚ_antisym, ≤ℚ_refl}
 use Rattle.hp_math.proofs.Laws.{*ℚ_smono, *ℚ_zero, <ℚ_of_not_≤ℚ}
-use Rattle.hp_base.specs.declared.literal.Rel.{Rel}
-use Rattle.hp_base.specs.declared.literal.Rel.TheVariants.{Le, Lt, Eq}
-use Rattle.hp_base.specs.declared.literal.Part.{Part}
-use Rattle.hp_base.specs.declared.literal.NumLit.{NumLit}
-use Rattle.hp_base.specs.Truth.{Values, name_value, parts_value, Compares, NumIsTrue}
-use Rattle.hp_base.specs.Leaf.{coefficient}
+use Rattle.hp_lit.specs.declared.literal.Rel.{Rel}
+use Rattle.hp_lit.specs.declared.literal.Rel.TheVariants.{Le, Lt, Eq}
+use Rattle.hp_lit.specs.declared.literal.Part.{Part}
+use Rattle.hp_lit.specs.declared.literal.NumLit.{NumLit}
+use Rattle.hp_lit.specs.Truth.{Values, name_value, parts_value, Compares, NumIsTrue}
+use Rattle.hp_lit.specs.Leaf.{coefficient}
 use Rattle.hp_rows.specs.declared.row.Row.{Row}
-use Rattle.hp_base.specs.declared.valuation.NameValue.{NameValue}
+use Rattle.hp_lit.specs.declared.valuation.NameValue.{NameValue}
 use Rattle.hp_rows.specs.Rows.{dot, Holds, HoldsBelow, Among}
 use Rattle.hp_rows.specs.Points.{at_point, values_of}
 use Rattle.hp_rows.specs.Exact.{AreQuotients}

@@ -3,11 +3,11 @@
 use Rattle.std.specs.Prelude.{◌≡◌, ◌<◌, ◌^◌, ℕ, suc, List, map, length, reverse, Result, Ok, Err}
 use Rattle.std.specs.List.{All}
 use Rattle.hp_math.specs.Rational.{ℚ}
-use Rattle.hp_base.specs.declared.literal.NumLit.{NumLit}
-use Rattle.hp_base.specs.declared.literal.Lit.TheVariants.{Num}
-use Rattle.hp_base.specs.declared.valuation.NameValue.{NameValue}
-use Rattle.hp_base.specs.Truth.{Values, name_value, NumIsTrue}
-use Rattle.hp_base.specs.Leaf.{IsValidNum}
+use Rattle.hp_lit.specs.declared.literal.NumLit.{NumLit}
+use Rattle.hp_lit.specs.declared.literal.Lit.TheVariants.{Num}
+use Rattle.hp_lit.specs.declared.valuation.NameValue.{NameValue}
+use Rattle.hp_lit.specs.Truth.{Values, name_value, NumIsTrue}
+use Rattle.hp_lit.specs.Leaf.{IsValidNum}
 use Rattle.hp_rows.specs.declared.answer.Place.{Place}
 use Rattle.hp_rows.specs.declared.answer.Place.TheVariants as place
 use Rattle.hp_rows.specs.Strain.{IsStrainAt}

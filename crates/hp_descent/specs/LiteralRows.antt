@@ -1,10 +1,10 @@
 -- The rows of literals over fractions. Their columns are the names that occur, in rising order, and then one for t, by
 -- which each bound is multiplied: so a strict literal is a row that stays under its bound by 1, and t is at least 1.
 use Rattle.std.specs.Prelude.{ℕ, suc, ℤ, pos, negsuc, neg_ℤ, List, [], ◌∷◌, ◌++◌, map, length}
-use Rattle.hp_base.specs.declared.literal.Rel.{Rel}
-use Rattle.hp_base.specs.declared.literal.Rel.TheVariants.{Le, Lt, Eq}
-use Rattle.hp_base.specs.declared.literal.NumLit.{NumLit}
-use Rattle.hp_base.specs.Leaf.{coefficient}
+use Rattle.hp_lit.specs.declared.literal.Rel.{Rel}
+use Rattle.hp_lit.specs.declared.literal.Rel.TheVariants.{Le, Lt, Eq}
+use Rattle.hp_lit.specs.declared.literal.NumLit.{NumLit}
+use Rattle.hp_lit.specs.Leaf.{coefficient}
 use Rattle.hp_rows.specs.declared.row.Row.{Row}
 use Rattle.hp_descent.specs.Columns.{columns}
 

@@ -1,9 +1,9 @@
 -- From multipliers of rows to multipliers of literals.
 use Rattle.std.specs.Prelude.{ℕ, suc, ◌<◌, ◌^◌, ℤ, ◌-ℤ◌, unsigned_abs, List, [], ◌∷◌, drop, if◌then◌else◌}
-use Rattle.hp_base.specs.declared.literal.Rel.{Rel}
-use Rattle.hp_base.specs.declared.literal.Rel.TheVariants.{Eq}
-use Rattle.hp_base.specs.declared.literal.NumLit.{NumLit}
-use Rattle.hp_base.specs.declared.proof.Share.{Share}
+use Rattle.hp_lit.specs.declared.literal.Rel.{Rel}
+use Rattle.hp_lit.specs.declared.literal.Rel.TheVariants.{Eq}
+use Rattle.hp_lit.specs.declared.literal.NumLit.{NumLit}
+use Rattle.hp_lit.specs.declared.proof.Share.{Share}
 use Rattle.hp_rows.specs.Rows.{times_at}
 use Rattle.hp_rows.specs.Arithmetic.{is_nothing}
 

@@ -5,11 +5,11 @@ use Rattle.std.specs.declared.cmp.Ordering.TheVariants.{Less, Equal, Greater}
 use Rattle.hp_math.specs.Rational.{ℚ, whole, ◌+ℚ◌, ◌*ℚ◌, ◌<ℚ◌}
 use Rattle.hp_num.specs.declared.wide.Wide.{Wide}
 use Rattle.hp_num.specs.Wide.{◌>>=◌, mul_of, add_of}
-use Rattle.hp_base.specs.declared.literal.Rel.{Rel}
-use Rattle.hp_base.specs.declared.literal.Rel.TheVariants.{Le, Lt, Eq}
-use Rattle.hp_base.specs.declared.literal.Part.{Part}
-use Rattle.hp_base.specs.declared.literal.NumLit.{NumLit}
-use Rattle.hp_base.specs.declared.valuation.NameValue.{NameValue}
+use Rattle.hp_lit.specs.declared.literal.Rel.{Rel}
+use Rattle.hp_lit.specs.declared.literal.Rel.TheVariants.{Le, Lt, Eq}
+use Rattle.hp_lit.specs.declared.literal.Part.{Part}
+use Rattle.hp_lit.specs.declared.literal.NumLit.{NumLit}
+use Rattle.hp_lit.specs.declared.valuation.NameValue.{NameValue}
 use Rattle.hp_rows.specs.Rows.{IsChain, HoldsBelow}
 use Rattle.hp_rows.specs.Points.{at_point}
 use Rattle.hp_rows.specs.Exact.{exact_point}

@@ -3,7 +3,7 @@
 ghost use Rattle.std.specs.Prelude.{◌≡◌};
 ghost use Rattle.hp_descent.specs.declared.answer.DescentErr.TheVariants.{Memory as memory};
 
-use hp_base::{Choice, NameValue, Share};
+use hp_lit::{Choice, NameValue, Share};
 use hp_num::{List, Wide};
 use std::alloc::AllocError;
 

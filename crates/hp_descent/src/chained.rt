@@ -11,7 +11,7 @@ use crate::columns::columns_of;
 use crate::decision::{numbered_strain, values_at};
 use crate::rows::rows_of;
 use crate::sums::{standing, sum_among};
-use hp_base::{NameValue, NumLit};
+use hp_lit::{NameValue, NumLit};
 use hp_num::List;
 use hp_rows::{Located, locate};
 use std::alloc::{AllocError, Global};

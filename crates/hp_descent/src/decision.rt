@@ -17,7 +17,7 @@ use crate::answer::{At, ChainAnswer, DescentErr, Form, NumAnswer, RowStrain};
 use crate::columns::columns_of;
 use crate::rows::rows_of;
 use crate::shares::shares_of;
-use hp_base::{Name, NameValue, NumLit};
+use hp_lit::{Name, NameValue, NumLit};
 use hp_num::{Frac, List};
 use hp_rows::{Answer, Fail, Place, Strain, descend, values};
 use std::alloc::{AllocError, Global};

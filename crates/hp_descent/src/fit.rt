@@ -5,7 +5,7 @@ ghost use Rattle.std.specs.List.{All};
 ghost use Rattle.std.specs.List.Sorted.{IsStrictlyIncreasing};
 ghost use Rattle.hp_descent.specs.Columns.{AreFit, IsFit, part_names};
 
-use hp_base::{NumLit, Part};
+use hp_lit::{NumLit, Part};
 
 /// Whether there are fewer than 2^28 literals, the names of each rise strictly, and no number has a magnitude above
 /// 2^127 - 1.

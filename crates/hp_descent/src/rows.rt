@@ -3,11 +3,11 @@
 ghost use Rattle.std.specs.Prelude.{◌≡◌, ◌<◌, ◌^◌, ◌++◌, ◌∷◌, [], IfOk, OnOk, map, pos, neg_ℤ, unsigned_abs};
 ghost use Rattle.std.specs.List.{All};
 ghost use Rattle.std.specs.List.Sorted.{IsStrictlyIncreasing};
-ghost use Rattle.hp_base.specs.Leaf.{coefficient};
+ghost use Rattle.hp_lit.specs.Leaf.{coefficient};
 ghost use Rattle.hp_descent.specs.Columns.{IsFit, part_names};
 ghost use Rattle.hp_descent.specs.LiteralRows.{backward_row, forward_row, rows_by, rows_over, scale_row};
 
-use hp_base::{NumLit, Part, Rel};
+use hp_lit::{NumLit, Part, Rel};
 use hp_num::{List, Whole};
 use hp_rows::Row;
 use std::alloc::{AllocError, Global};

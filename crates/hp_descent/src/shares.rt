@@ -5,7 +5,7 @@ ghost use Rattle.std.specs.List.{All};
 ghost use Rattle.hp_rows.specs.Rows.{AreNotNegative, times_at};
 ghost use Rattle.hp_descent.specs.Shares.{IsNarrow, row_count, shares_of, signed_by, with_share};
 
-use hp_base::{NumLit, Rel, Share};
+use hp_lit::{NumLit, Rel, Share};
 use hp_num::{List, Whole};
 use std::alloc::{AllocError, Global};
 

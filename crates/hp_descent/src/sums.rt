@@ -5,11 +5,11 @@
 ghost use Rattle.std.specs.Prelude.{◌≡◌, ◌↔◌, ◌<◌, ◌^◌, Ok, IfErr, IfOk, pos, true, false, unsigned_abs};
 ghost use Rattle.std.specs.List.{All};
 ghost use Rattle.hp_math.specs.Rational.{whole};
-ghost use Rattle.hp_base.specs.Truth.{NumIsTrue, name_value, parts_value};
+ghost use Rattle.hp_lit.specs.Truth.{NumIsTrue, name_value, parts_value};
 ghost use Rattle.hp_descent.specs.Columns.{IsFit};
 ghost use Rattle.hp_descent.specs.Values.{Stands, add_product, is_met, sum_at, value_in};
 
-use hp_base::{Name, NameValue, NumLit, Part, Rel, Valuation};
+use hp_lit::{Name, NameValue, NumLit, Part, Rel, Valuation};
 use hp_num::{Frac, Whole, Wide};
 use std::cmp::Ordering;
 

@@ -8,9 +8,9 @@ use Rattle.std.specs.List.{All, Contains}
 use Rattle.std.specs.List.Sorted.{IsStrictlyIncreasing}
 use Rattle.hp_math.specs.Rational.{ℚ, ratio, whole, ◌-ℚ◌, ◌≤ℚ◌, ◌+ℚ◌}
 use Rattle.hp_math.proofs.Rational.{ratio-neg, ratio-+, ratio-≤, ratio-inj, ratio-kept}
-use Rattle.hp_base.specs.declared.literal.IdxLit.{IdxLit}
-use Rattle.hp_base.specs.declared.valuation.NameValue.{NameValue}
-use Rattle.hp_base.specs.Truth.{Values, name_value, optional_value, IdxIsTrue}
+use Rattle.hp_lit.specs.declared.literal.IdxLit.{IdxLit}
+use Rattle.hp_lit.specs.declared.valuation.NameValue.{NameValue}
+use Rattle.hp_lit.specs.Truth.{Values, name_value, optional_value, IdxIsTrue}
 use Rattle.hp_diff.specs.declared.edges.Edge.{Edge}
 use Rattle.hp_diff.specs.Labels.{edge_at}
 use Rattle.hp_diff.specs.Settled.{value_at, AreValues}

@@ -4,9 +4,9 @@ use Rattle.std.proofs.lemmas.Option.{slice_get-map}
 use Rattle.std.specs.Option.{option_map}
 use Rattle.std.specs.List.{All}
 use Rattle.std.proofs.lemmas.List.Elements.{All-nil, All-cons}
-use Rattle.hp_base.specs.declared.literal.IdxLit.{IdxLit}
-use Rattle.hp_base.specs.declared.literal.Lit.TheVariants.{Idx}
-use Rattle.hp_base.specs.Cycle.{turned, AreRowsOf, Leads, bound_sum, IsValidIdx}
+use Rattle.hp_lit.specs.declared.literal.IdxLit.{IdxLit}
+use Rattle.hp_lit.specs.declared.literal.Lit.TheVariants.{Idx}
+use Rattle.hp_lit.specs.Cycle.{turned, AreRowsOf, Leads, bound_sum, IsValidIdx}
 use Rattle.hp_diff.specs.declared.edges.Edge.{Edge}
 use Rattle.hp_diff.specs.Labels.{edge_at}
 use Rattle.hp_diff.specs.Cycles.{Walk, weight, IsNegativeCycle}

@@ -3,11 +3,11 @@ use Rattle.std.specs.Prelude.{◌≡◌, ◌⊎◌, ℕ, zero, suc, ◌+◌, ◌
 use Rattle.std.specs.List.{All, Contains}
 use Rattle.std.specs.List.Sorted.{IsStrictlyIncreasing}
 use Rattle.hp_math.specs.Rational.{whole}
-use Rattle.hp_base.specs.declared.literal.Name.{Name}
-use Rattle.hp_base.specs.declared.literal.IdxLit.{IdxLit}
-use Rattle.hp_base.specs.declared.proof.Step.{Step}
-use Rattle.hp_base.specs.declared.valuation.NameValue.{NameValue}
-use Rattle.hp_base.specs.Cycle.{turned}
+use Rattle.hp_lit.specs.declared.literal.Name.{Name}
+use Rattle.hp_lit.specs.declared.literal.IdxLit.{IdxLit}
+use Rattle.hp_lit.specs.declared.proof.Step.{Step}
+use Rattle.hp_lit.specs.declared.valuation.NameValue.{NameValue}
+use Rattle.hp_lit.specs.Cycle.{turned}
 use Rattle.hp_diff.specs.declared.edges.Edge.{Edge}
 use Rattle.hp_diff.specs.Labels.{edge_at}
 use Rattle.hp_diff.specs.Rows.{mentioned, names_of}

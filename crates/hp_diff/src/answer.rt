@@ -10,7 +10,7 @@ use crate::edges::{Edge, edges_of};
 use crate::names::distinct_names;
 use crate::order::in_order;
 use crate::outcome::{Settled, settle};
-use hp_base::{IdxLit, Name, NameValue, Step};
+use hp_lit::{IdxLit, Name, NameValue, Step};
 use hp_num::{Frac, List};
 use std::alloc::{AllocError, Global};
 

@@ -2,12 +2,12 @@
 ghost use Rattle.std.specs.Prelude.{◌≡◌, ◌≤◌, IfOk, length};
 ghost use Rattle.std.specs.List.{All};
 ghost use Rattle.std.specs.List.Sorted.{IsStrictlyIncreasing};
-ghost use Rattle.hp_base.specs.Cycle.{turned};
+ghost use Rattle.hp_lit.specs.Cycle.{turned};
 ghost use Rattle.hp_diff.specs.Edges.{AreEdges, IsNamed, IsOver};
 ghost use Rattle.hp_diff.specs.Rows.{IsSmallBound};
 
 use crate::names::node_of;
-use hp_base::IdxLit;
+use hp_lit::IdxLit;
 use std::alloc::{AllocError, Global};
 
 /// The value at `to` is at most the value at `from` plus the bound. The edge stands for the row of that number, counted

@@ -4,7 +4,7 @@ ghost use Rattle.std.specs.List.Sorted.{IsStrictlyIncreasing};
 ghost use Rattle.hp_diff.specs.Edges.{AreNames, IsNamed, name_at};
 ghost use Rattle.hp_diff.specs.Rows.{mentioned, number_of};
 
-use hp_base::{IdxLit, Name};
+use hp_lit::{IdxLit, Name};
 use std::alloc::{AllocError, Global};
 
 /// Adds the name, if there is one.

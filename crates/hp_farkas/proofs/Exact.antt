@@ -7,8 +7,8 @@ use Rattle.hp_num.specs.declared.wide.Wide.{Wide}
 use Rattle.hp_num.specs.Wide.{times_of, plus_of, ◌>>=◌}
 use Rattle.hp_num.proofs.Bits.{times_gave, plus_gave}
 use Rattle.hp_num.proofs.Given.{came}
-use Rattle.hp_base.specs.declared.literal.Part.{Part}
-use Rattle.hp_base.specs.Leaf.{coefficient, Taken, sum_coefficient, sum_bound}
+use Rattle.hp_lit.specs.declared.literal.Part.{Part}
+use Rattle.hp_lit.specs.Leaf.{coefficient, Taken, sum_coefficient, sum_bound}
 use Rattle.hp_farkas.specs.Sums.{add_product, add_parts, sum_from, bound_from}
 use Rattle.hp_farkas.specs.Names.{HasName, Occurs}
 

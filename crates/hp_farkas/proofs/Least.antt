@@ -1,9 +1,9 @@
 -- The search for the next name finds the least one.
 use Rattle.std.proofs.Common.{◌≡◌, ℕ, ◌<◌, ◌≤◌, ◌⊎◌, inl, inr, refl, arith, List, [], ◌∷◌, Option, Some, None, true, false, cond, nat_lt, nat_le}
 use Rattle.std.proofs.lemmas.Bool.{ltb-true, ltb-false, leb-true, leb-false}
-use Rattle.hp_base.specs.declared.literal.Name.{Name}
-use Rattle.hp_base.specs.declared.literal.Part.{Part}
-use Rattle.hp_base.specs.Leaf.{Taken}
+use Rattle.hp_lit.specs.declared.literal.Name.{Name}
+use Rattle.hp_lit.specs.declared.literal.Part.{Part}
+use Rattle.hp_lit.specs.Leaf.{Taken}
 use Rattle.hp_farkas.specs.Next.{lower, lesser, least_part, least_name}
 use Rattle.hp_farkas.specs.Names.{HasName, Occurs}
 

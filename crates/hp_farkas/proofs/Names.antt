@@ -1,8 +1,8 @@
 -- The list of names rises and has each name that occurs, and a walk from least name to least name goes along it.
 use Rattle.std.proofs.Common.{◌≡◌, ℕ, ◌+◌, ◌≤◌, ◌⊎◌, inl, inr, refl, ap, subst, arith, List, [], ◌∷◌, Bool, true, false, cond, nat_lt}
 use Rattle.std.proofs.lemmas.Bool.{ltb-true, ltb-false, cases_eq}
-use Rattle.hp_base.specs.declared.literal.Part.{Part}
-use Rattle.hp_base.specs.Leaf.{Taken}
+use Rattle.hp_lit.specs.declared.literal.Part.{Part}
+use Rattle.hp_lit.specs.Leaf.{Taken}
 use Rattle.hp_farkas.specs.Names.{HasName, insert, IsIn, names_of, NamesInOrder, Occurs, RisesFrom, with_names}
 
 -- ---- a number put in its place

@@ -4,8 +4,8 @@ use Rattle.std.proofs.lemmas.Bool.{eqb-true, eqb-false}
 use Rattle.std.proofs.lemmas.Int.{ints}
 use Rattle.hp_num.specs.declared.wide.Wide.{Wide}
 use Rattle.hp_num.specs.Wide.{◌>>=◌}
-use Rattle.hp_base.specs.declared.literal.Part.{Part}
-use Rattle.hp_base.specs.Leaf.{coefficient}
+use Rattle.hp_lit.specs.declared.literal.Part.{Part}
+use Rattle.hp_lit.specs.Leaf.{coefficient}
 use Rattle.hp_farkas.specs.Names.{HasName}
 use Rattle.hp_farkas.specs.Sums.{add_product, add_parts, PartsRiseFrom, OneProductEach}
 use Rattle.hp_farkas.proofs.Exact.{no_part}

@@ -1,9 +1,9 @@
 -- The test of a combination's form goes down its shares.
 use Rattle.std.proofs.Common.{◌≡◌, ℕ, ◌+◌, ◌<◌, sym, subst, List, [], ◌∷◌, length, drop, get_or, add-one}
 use Rattle.std.proofs.Math.Seq.{drop-cons}
-use Rattle.hp_base.specs.declared.literal.Lit.{Lit}
-use Rattle.hp_base.specs.declared.proof.Share.{Share}
-use Rattle.hp_base.specs.Leaf.{Taken, IsTaken, AreTaken, IsRising}
+use Rattle.hp_lit.specs.declared.literal.Lit.{Lit}
+use Rattle.hp_lit.specs.declared.proof.Share.{Share}
+use Rattle.hp_lit.specs.Leaf.{Taken, IsTaken, AreTaken, IsRising}
 use Rattle.hp_farkas.specs.Form.{IsCombination}
 
 -- the numbers of the literals rise, and begin above n

@@ -6,11 +6,11 @@ use Rattle.std.specs.Prelude.{int_lt}
 use Rattle.std.specs.Ordering.{int_eq}
 use Rattle.hp_num.specs.declared.wide.Wide.{Wide}
 use Rattle.hp_num.specs.Wide.{◌>>=◌}
-use Rattle.hp_base.specs.declared.literal.Rel.{Rel}
-use Rattle.hp_base.specs.declared.literal.Rel.TheVariants.{Le, Lt, Eq}
-use Rattle.hp_base.specs.declared.literal.Lit.{Lit}
-use Rattle.hp_base.specs.declared.proof.Share.{Share}
-use Rattle.hp_base.specs.Leaf.{Taken, AreTaken, sum_coefficient, sum_bound, HasStrict, IsValidNum}
+use Rattle.hp_lit.specs.declared.literal.Rel.{Rel}
+use Rattle.hp_lit.specs.declared.literal.Rel.TheVariants.{Le, Lt, Eq}
+use Rattle.hp_lit.specs.declared.literal.Lit.{Lit}
+use Rattle.hp_lit.specs.declared.proof.Share.{Share}
+use Rattle.hp_lit.specs.Leaf.{Taken, AreTaken, sum_coefficient, sum_bound, HasStrict, IsValidNum}
 use Rattle.hp_farkas.specs.Form.{IsCombination}
 use Rattle.hp_farkas.specs.Names.{IsIn, names_of}
 use Rattle.hp_farkas.specs.Sums.{sum_from, bound_from}

@@ -3,11 +3,11 @@ use Rattle.std.specs.Prelude.{◌≡◌, List, [], ◌∷◌, ℕ, ℤ, pos, Boo
 use Rattle.std.specs.Ordering.{int_eq}
 use Rattle.hp_num.specs.declared.wide.Wide.{Wide}
 use Rattle.hp_num.specs.Wide.{◌>>=◌}
-use Rattle.hp_base.specs.declared.literal.Rel.{Rel}
-use Rattle.hp_base.specs.declared.literal.Rel.TheVariants.{Le, Lt, Eq}
-use Rattle.hp_base.specs.declared.literal.Lit.{Lit}
-use Rattle.hp_base.specs.declared.proof.Share.{Share}
-use Rattle.hp_base.specs.Leaf.{Taken, AreTaken, IsRising}
+use Rattle.hp_lit.specs.declared.literal.Rel.{Rel}
+use Rattle.hp_lit.specs.declared.literal.Rel.TheVariants.{Le, Lt, Eq}
+use Rattle.hp_lit.specs.declared.literal.Lit.{Lit}
+use Rattle.hp_lit.specs.declared.proof.Share.{Share}
+use Rattle.hp_lit.specs.Leaf.{Taken, AreTaken, IsRising}
 use Rattle.hp_farkas.specs.Form.{IsCombination}
 use Rattle.hp_farkas.specs.Names.{names_of}
 use Rattle.hp_farkas.specs.Sums.{sum_from, bound_from}

@@ -1,7 +1,7 @@
 -- The names that occur in the literals taken, in their order.
 use Rattle.std.specs.Prelude.{◌≡◌, ℕ, ◌+◌, ◌≤◌, ◌⊎◌, ◌↔◌, List, [], ◌∷◌, nat_lt, if◌then◌else◌}
-use Rattle.hp_base.specs.declared.literal.Part.{Part}
-use Rattle.hp_base.specs.Leaf.{Taken}
+use Rattle.hp_lit.specs.declared.literal.Part.{Part}
+use Rattle.hp_lit.specs.Leaf.{Taken}
 
 -- a number in its place in a rising list, where it stands once
 abbrev pub insert : ℕ → List ℕ → List ℕ

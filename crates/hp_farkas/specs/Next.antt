@@ -1,8 +1,8 @@
 -- The least name from a number on.
 use Rattle.std.specs.Prelude.{ℕ, List, [], ◌∷◌, Option, Some, None, nat_lt, nat_le, if◌then◌else◌}
-use Rattle.hp_base.specs.declared.literal.Name.{Name}
-use Rattle.hp_base.specs.declared.literal.Part.{Part}
-use Rattle.hp_base.specs.Leaf.{Taken}
+use Rattle.hp_lit.specs.declared.literal.Name.{Name}
+use Rattle.hp_lit.specs.declared.literal.Part.{Part}
+use Rattle.hp_lit.specs.Leaf.{Taken}
 
 abbrev pub lower : Option Name → Name → Option Name
 lower None n = Some n

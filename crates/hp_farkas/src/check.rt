@@ -1,6 +1,6 @@
 //! The check of a combination: first its form, then the sum of each name, and at last the sum of the bounds.
 ghost use Rattle.std.specs.Prelude.{◌≡◌, List, Ok, true, false};
-ghost use Rattle.hp_base.specs.Leaf.{Taken, IsTaken, AreTaken, IsValidNum};
+ghost use Rattle.hp_lit.specs.Leaf.{Taken, IsTaken, AreTaken, IsValidNum};
 ghost use Rattle.hp_farkas.specs.Form.{IsCombination};
 ghost use Rattle.hp_farkas.specs.Names.{names_of};
 ghost use Rattle.hp_farkas.specs.Check.{IsChecked, answer_of, has_strict, is_less, is_refuted, vanish};
@@ -8,7 +8,7 @@ ghost use Rattle.hp_farkas.specs.Check.{IsChecked, answer_of, has_strict, is_les
 use crate::form::{is_combination, num_at};
 use crate::next::least_name;
 use crate::sums::{sum_of_bounds, sum_of_name};
-use hp_base::{Lit, Rel, Share};
+use hp_lit::{Lit, Rel, Share};
 use hp_num::Wide;
 
 /// Whether each name's sum is 0. It goes on after a sum that isn't.

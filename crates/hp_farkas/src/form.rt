@@ -1,12 +1,12 @@
 //! The form of a combination: which literals a share may take, and in what order. Nothing is added here.
 ghost use Rattle.std.specs.Prelude.{◌≡◌, IfSome, IfNone, true, false};
-ghost use Rattle.hp_base.specs.declared.literal.NumLit.{NumLit};
-ghost use Rattle.hp_base.specs.declared.literal.Lit.TheVariants.{Num};
-ghost use Rattle.hp_base.specs.Cycle.{IsLit};
-ghost use Rattle.hp_base.specs.Leaf.{Taken, IsTaken};
+ghost use Rattle.hp_lit.specs.declared.literal.NumLit.{NumLit};
+ghost use Rattle.hp_lit.specs.declared.literal.Lit.TheVariants.{Num};
+ghost use Rattle.hp_lit.specs.Cycle.{IsLit};
+ghost use Rattle.hp_lit.specs.Leaf.{Taken, IsTaken};
 ghost use Rattle.hp_farkas.specs.Form.{IsCombination};
 
-use hp_base::{Lit, NumLit, Rel, Share};
+use hp_lit::{Lit, NumLit, Rel, Share};
 
 /// The literal with this number, counted from 1, where it is one over fractions.
 pub fn num_at(path: &[Lit], number: u32) -> Option<&NumLit>

@@ -1,10 +1,10 @@
 //! The names of a combination in their order, found one after the other without memory.
 ghost use Rattle.std.specs.Prelude.{◌≡◌, List, None};
-ghost use Rattle.hp_base.specs.Leaf.{Taken, AreTaken};
+ghost use Rattle.hp_lit.specs.Leaf.{Taken, AreTaken};
 ghost use Rattle.hp_farkas.specs.Next.{lesser, least_part, least_name};
 
 use crate::form::num_at;
-use hp_base::{Lit, Name, Part, Share};
+use hp_lit::{Lit, Name, Part, Share};
 
 /// The lesser of the best so far and a name, which counts only from `from` on.
 fn lesser(from: u64, best: Option<Name>, name: Name) -> Option<Name>

@@ -1,10 +1,10 @@
 //! The sums of a combination, share by share: of a name's multiplied coefficients, and of the multiplied bounds.
 ghost use Rattle.std.specs.Prelude.{◌≡◌, List, pos};
-ghost use Rattle.hp_base.specs.Leaf.{Taken, IsTaken, AreTaken};
+ghost use Rattle.hp_lit.specs.Leaf.{Taken, IsTaken, AreTaken};
 ghost use Rattle.hp_farkas.specs.Sums.{add_product, add_parts, sum_from, bound_from};
 
 use crate::form::num_at;
-use hp_base::{Lit, Name, Part, Share};
+use hp_lit::{Lit, Name, Part, Share};
 use hp_num::{Wide, plus, times};
 
 /// The sum so far.

@@ -11,11 +11,11 @@ use Rattle.hp_tree.specs.declared.problem.Sort.TheVariants as sort
 use Rattle.hp_tree.specs.declared.problem.Atom.{Atom}
 use Rattle.hp_tree.specs.declared.problem.Clause.{Clause}
 use Rattle.hp_tree.specs.declared.term.Term.{Term}
-use Rattle.hp_base.specs.declared.literal.Name.{Name}
-use Rattle.hp_base.specs.declared.literal.Lit.{Lit}
-use Rattle.hp_base.specs.Sorts.{AreOfSorts, IsOfSort}
-use Rattle.hp_base.specs.Truth.{Values, name_value, optional_value, LineIsTrue}
-use Rattle.hp_base.specs.Words.{Agrees}
+use Rattle.hp_lit.specs.declared.literal.Name.{Name}
+use Rattle.hp_lit.specs.declared.literal.Lit.{Lit}
+use Rattle.hp_lit.specs.Sorts.{AreOfSorts, IsOfSort}
+use Rattle.hp_lit.specs.Truth.{Values, name_value, optional_value, LineIsTrue}
+use Rattle.hp_lit.specs.Words.{Agrees}
 use Rattle.hp_tree.specs.declared.sides.Side.{Side}
 use Rattle.hp_tree.specs.declared.sides.Side.TheVariants.{Guard, Head}
 use Rattle.hp_tree.specs.Sides.{asked}

@@ -7,7 +7,7 @@ use Rattle.std.specs.Prelude.{pos}
 use Rattle.hp_num.specs.Divisor.{gcd}
 use Rattle.hp_linear.specs.declared.form.Form.{Form}
 use Rattle.hp_linear.specs.declared.form.Summand.{Summand}
-use Rattle.hp_base.specs.declared.refusal.Refusal.TheVariants.{Wide, Memory}
+use Rattle.hp_lit.specs.declared.refusal.Refusal.TheVariants.{Wide, Memory}
 use Rattle.hp_linear.specs.Steps.{Refusable, unless_wide}
 use Rattle.hp_linear.specs.Forms.{product_of, sum_of}
 use Rattle.hp_linear.specs.Wholes.{denominator_of, lcm_of, multiple_of, scaled_number}

@@ -14,9 +14,9 @@ use Rattle.hp_ground.specs.declared.consts.ConstsRead.TheVariants as consts
 use Rattle.hp_ground.specs.Ground.{IsGroundClause, IsGroundProblem, is_ground_atom}
 use Rattle.hp_ground.specs.Lines.{HasRows, IsGroundOf}
 use Rattle.hp_ground.specs.Answers.{ConstsFound, GroundFound, LinedAs, clause_is_ground}
-use Rattle.hp_base.specs.declared.names.Ground.{Ground}
-use Rattle.hp_base.specs.declared.refusal.GroundErr.{GroundErr}
-use Rattle.hp_base.specs.declared.refusal.GroundErr.TheVariants as ground
+use Rattle.hp_defs.specs.declared.names.Ground.{Ground}
+use Rattle.hp_lit.specs.declared.refusal.GroundErr.{GroundErr}
+use Rattle.hp_lit.specs.declared.refusal.GroundErr.TheVariants as ground
 use Rattle.hp_ground.proofs.Limited.{none_passed, wide_passed}
 use Rattle.hp_ground.proofs.Models.{sorts_of}
 use Rattle.hp_model.specs.WellFormed.{constants}

@@ -12,14 +12,14 @@ use Rattle.hp_tree.specs.declared.problem.Sort.TheVariants as sort
 use Rattle.hp_tree.specs.declared.problem.Atom.{Atom}
 use Rattle.hp_tree.specs.declared.problem.Cmp.{Cmp}
 use Rattle.hp_tree.specs.declared.problem.Cmp.TheVariants.{Le, Lt, Eq, Ne, Ge, Gt}
-use Rattle.hp_base.specs.declared.literal.Name.{Name}
-use Rattle.hp_base.specs.declared.literal.Rel.{Rel}
-use Rattle.hp_base.specs.declared.literal.Rel.TheVariants as rel
-use Rattle.hp_base.specs.declared.literal.Lit.TheVariants.{Idx}
+use Rattle.hp_lit.specs.declared.literal.Name.{Name}
+use Rattle.hp_lit.specs.declared.literal.Rel.{Rel}
+use Rattle.hp_lit.specs.declared.literal.Rel.TheVariants as rel
+use Rattle.hp_lit.specs.declared.literal.Lit.TheVariants.{Idx}
 use Rattle.hp_norm.specs.declared.collect.Form.{Form}
 use Rattle.hp_norm.specs.declared.collect.Shape.{Shape}
 use Rattle.hp_norm.specs.declared.collect.Shape.TheVariants.{Number, Sum, Other}
-use Rattle.hp_base.specs.Words.{number}
+use Rattle.hp_lit.specs.Words.{number}
 use Rattle.hp_tree.specs.declared.sides.Side.{Side}
 use Rattle.hp_tree.specs.Sides.{taken}
 use Rattle.hp_norm.specs.Forms.{form_of, shape_form, shape_of, shape_step, shifted, plus_shape, minus_shape, neg_shape, number_shape, named_shape}

@@ -12,15 +12,15 @@ use Rattle.hp_tree.specs.declared.problem.Clause.{Clause}
 use Rattle.hp_tree.specs.declared.problem.Problem.{Problem}
 use Rattle.hp_tree.specs.declared.problem.Decl.{Decl}
 use Rattle.hp_tree.specs.declared.problem.Decl.TheVariants.{Const, Fun}
-use Rattle.hp_base.specs.declared.line.Line.{Line}
-use Rattle.hp_base.specs.declared.line.Def.{Def}
-use Rattle.hp_base.specs.declared.names.Constant.{Constant}
-use Rattle.hp_base.specs.declared.names.Ground.{Ground}
-use Rattle.hp_base.specs.declared.names.Signature.{Signature}
-use Rattle.hp_base.specs.Names.{constant_sort, sort_of_definition, sorts}
-use Rattle.hp_base.specs.Sorts.{AreOfSorts, IsOfSort}
-use Rattle.hp_base.specs.Truth.{Values, LineIsTrue}
-use Rattle.hp_base.specs.Words.{Word, Agrees}
+use Rattle.hp_lit.specs.declared.line.Line.{Line}
+use Rattle.hp_lit.specs.declared.line.Def.{Def}
+use Rattle.hp_defs.specs.declared.names.Constant.{Constant}
+use Rattle.hp_defs.specs.declared.names.Ground.{Ground}
+use Rattle.hp_defs.specs.declared.names.Signature.{Signature}
+use Rattle.hp_defs.specs.Names.{constant_sort, sort_of_definition, sorts}
+use Rattle.hp_lit.specs.Sorts.{AreOfSorts, IsOfSort}
+use Rattle.hp_lit.specs.Truth.{Values, LineIsTrue}
+use Rattle.hp_lit.specs.Words.{Word, Agrees}
 use Rattle.hp_model.specs.declared.structure.ConstValue.{ConstValue}
 use Rattle.hp_model.specs.declared.structure.Structure.{Structure}
 use Rattle.hp_model.specs.Value.{constant, entry_name, entry_value, functions_of}

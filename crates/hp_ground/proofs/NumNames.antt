@@ -14,13 +14,13 @@ use Rattle.hp_tree.specs.declared.problem.Sort.TheVariants as sort
 use Rattle.hp_tree.specs.declared.problem.Atom.{Atom}
 use Rattle.hp_tree.specs.declared.problem.Cmp.{Cmp}
 use Rattle.hp_tree.specs.declared.problem.Cmp.TheVariants.{Le, Lt, Eq, Ne, Ge, Gt}
-use Rattle.hp_base.specs.declared.literal.Name.{Name}
-use Rattle.hp_base.specs.declared.literal.Part.{Part}
-use Rattle.hp_base.specs.declared.literal.Rel.{Rel}
-use Rattle.hp_base.specs.declared.literal.Rel.TheVariants as rel
-use Rattle.hp_base.specs.declared.literal.Lit.{Lit}
-use Rattle.hp_base.specs.declared.literal.Lit.TheVariants.{Num, Idx, Ptr}
-use Rattle.hp_base.specs.Words.{Word, number}
+use Rattle.hp_lit.specs.declared.literal.Name.{Name}
+use Rattle.hp_lit.specs.declared.literal.Part.{Part}
+use Rattle.hp_lit.specs.declared.literal.Rel.{Rel}
+use Rattle.hp_lit.specs.declared.literal.Rel.TheVariants as rel
+use Rattle.hp_lit.specs.declared.literal.Lit.{Lit}
+use Rattle.hp_lit.specs.declared.literal.Lit.TheVariants.{Num, Idx, Ptr}
+use Rattle.hp_lit.specs.Words.{Word, number}
 use Rattle.hp_tree.specs.declared.sides.Side.{Side}
 use Rattle.hp_tree.specs.Sides.{taken}
 use Rattle.hp_linear.specs.declared.form.Form.{Form}

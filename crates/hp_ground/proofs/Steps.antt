@@ -7,12 +7,12 @@ use Rattle.hp_num.specs.Wide.{◌>>=◌}
 use Rattle.hp_tree.specs.declared.problem.Atom.{Atom}
 use Rattle.hp_tree.specs.declared.problem.Clause.{Clause}
 use Rattle.hp_tree.specs.declared.problem.Sort.{Sort}
-use Rattle.hp_base.specs.declared.literal.Lit.{Lit}
-use Rattle.hp_base.specs.declared.literal.Lit.TheVariants.{Num, Idx, Ptr}
-use Rattle.hp_base.specs.declared.line.Line.{Line}
-use Rattle.hp_base.specs.declared.refusal.Refusal.{Refusal}
-use Rattle.hp_base.specs.declared.refusal.Refusal.TheVariants as refused
-use Rattle.hp_base.proofs.Growing.{begins_more, begins_same, begins_then}
+use Rattle.hp_lit.specs.declared.literal.Lit.{Lit}
+use Rattle.hp_lit.specs.declared.literal.Lit.TheVariants.{Num, Idx, Ptr}
+use Rattle.hp_lit.specs.declared.line.Line.{Line}
+use Rattle.hp_lit.specs.declared.refusal.Refusal.{Refusal}
+use Rattle.hp_lit.specs.declared.refusal.Refusal.TheVariants as refused
+use Rattle.hp_lit.proofs.Growing.{begins_more, begins_same, begins_then}
 use Rattle.hp_tree.specs.declared.sides.Side.{Side}
 use Rattle.hp_tree.specs.declared.sides.Side.TheVariants.{Guard, Head}
 use Rattle.hp_norm.specs.Literals.{IsLightAtom, atom_literals}

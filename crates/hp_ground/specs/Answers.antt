@@ -5,18 +5,18 @@ use Rattle.hp_tree.specs.declared.limit.Limit.{Limit}
 use Rattle.hp_tree.specs.declared.problem.Clause.{Clause}
 use Rattle.hp_tree.specs.declared.problem.Decl.{Decl}
 use Rattle.hp_tree.specs.declared.problem.Problem.{Problem}
-use Rattle.hp_base.specs.declared.literal.Lit.{Lit}
-use Rattle.hp_base.specs.declared.line.Line.{Line}
-use Rattle.hp_base.specs.declared.names.Ground.{Ground}
-use Rattle.hp_base.specs.Names.{NameList}
+use Rattle.hp_lit.specs.declared.literal.Lit.{Lit}
+use Rattle.hp_lit.specs.declared.line.Line.{Line}
+use Rattle.hp_defs.specs.declared.names.Ground.{Ground}
+use Rattle.hp_defs.specs.Names.{NameList}
 use Rattle.hp_model.specs.WellFormed.{constants as declarations}
 use Rattle.hp_names.specs.Names.{AreDistinct}
-use Rattle.hp_base.specs.declared.refusal.Refusal.{Refusal}
-use Rattle.hp_base.specs.declared.refusal.Refusal.TheVariants as refused
-use Rattle.hp_base.specs.declared.refusal.GroundErr.{GroundErr}
-use Rattle.hp_base.specs.declared.refusal.GroundErr.TheVariants as ground
-use Rattle.hp_base.specs.Growing.{Begins}
-use Rattle.hp_base.specs.Limited.{coefficient}
+use Rattle.hp_lit.specs.declared.refusal.Refusal.{Refusal}
+use Rattle.hp_lit.specs.declared.refusal.Refusal.TheVariants as refused
+use Rattle.hp_lit.specs.declared.refusal.GroundErr.{GroundErr}
+use Rattle.hp_lit.specs.declared.refusal.GroundErr.TheVariants as ground
+use Rattle.hp_lit.specs.Growing.{Begins}
+use Rattle.hp_lit.specs.Limited.{coefficient}
 use Rattle.hp_linear.specs.Steps.{Refusable}
 use Rattle.hp_ground.specs.declared.consts.Consts.{Consts}
 use Rattle.hp_ground.specs.declared.consts.ConstsRead.{ConstsRead}

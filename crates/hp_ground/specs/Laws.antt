@@ -2,10 +2,10 @@
 use Rattle.std.specs.Prelude.{ℕ, List, [], ◌∷◌}
 use Rattle.std.specs.List.{All}
 use Rattle.hp_tree.specs.declared.problem.Problem.{Problem}
-use Rattle.hp_base.specs.declared.names.Ground.{Ground}
-use Rattle.hp_base.specs.Names.{sorts}
-use Rattle.hp_base.specs.Sorts.{AreOfSorts}
-use Rattle.hp_base.specs.Truth.{Values, LineIsTrue}
+use Rattle.hp_defs.specs.declared.names.Ground.{Ground}
+use Rattle.hp_defs.specs.Names.{sorts}
+use Rattle.hp_lit.specs.Sorts.{AreOfSorts}
+use Rattle.hp_lit.specs.Truth.{Values, LineIsTrue}
 use Rattle.hp_model.specs.declared.structure.ConstValue.{ConstValue}
 use Rattle.hp_model.specs.declared.structure.Structure.{Structure}
 use Rattle.hp_model.specs.Satisfies.{Satisfies}

@@ -8,24 +8,24 @@ use Rattle.hp_tree.specs.declared.problem.Sort.TheVariants as sort
 use Rattle.hp_tree.specs.declared.problem.Atom.{Atom}
 use Rattle.hp_tree.specs.declared.problem.Clause.{Clause}
 use Rattle.hp_tree.specs.declared.problem.Problem.{Problem}
-use Rattle.hp_base.specs.declared.literal.Name.{Name}
-use Rattle.hp_base.specs.declared.literal.Part.{Part}
-use Rattle.hp_base.specs.declared.literal.NumLit.{NumLit}
-use Rattle.hp_base.specs.declared.literal.IdxLit.{IdxLit}
-use Rattle.hp_base.specs.declared.literal.Lit.{Lit}
-use Rattle.hp_base.specs.declared.literal.Lit.TheVariants.{Num, Idx, Ptr}
-use Rattle.hp_base.specs.declared.line.Line.{Line}
-use Rattle.hp_base.specs.declared.line.Origin.TheVariants.{Ground as FromClause}
-use Rattle.hp_base.specs.declared.names.Constant.{Constant}
-use Rattle.hp_base.specs.declared.names.Ground.{Ground}
-use Rattle.hp_base.specs.Limited.{coefficient, many_names}
-use Rattle.hp_base.specs.Names.{sorts}
+use Rattle.hp_lit.specs.declared.literal.Name.{Name}
+use Rattle.hp_lit.specs.declared.literal.Part.{Part}
+use Rattle.hp_lit.specs.declared.literal.NumLit.{NumLit}
+use Rattle.hp_lit.specs.declared.literal.IdxLit.{IdxLit}
+use Rattle.hp_lit.specs.declared.literal.Lit.{Lit}
+use Rattle.hp_lit.specs.declared.literal.Lit.TheVariants.{Num, Idx, Ptr}
+use Rattle.hp_lit.specs.declared.line.Line.{Line}
+use Rattle.hp_lit.specs.declared.line.Origin.TheVariants.{Ground as FromClause}
+use Rattle.hp_defs.specs.declared.names.Constant.{Constant}
+use Rattle.hp_defs.specs.declared.names.Ground.{Ground}
+use Rattle.hp_lit.specs.Limited.{coefficient, many_names}
+use Rattle.hp_defs.specs.Names.{sorts}
 use Rattle.hp_model.specs.WellFormed.{Declared, constants as declarations}
 use Rattle.hp_tree.specs.declared.sides.Side.{Side}
 use Rattle.hp_tree.specs.declared.sides.Side.TheVariants.{Guard, Head}
 use Rattle.hp_norm.specs.Forms.{IsSmall}
 use Rattle.hp_norm.specs.Literals.{atom_literals}
-use Rattle.hp_base.specs.declared.refusal.Refusal.TheVariants as refused
+use Rattle.hp_lit.specs.declared.refusal.Refusal.TheVariants as refused
 use Rattle.hp_linear.specs.Steps.{Refusable, behind}
 use Rattle.hp_linear.specs.Literals.{num_literals}
 use Rattle.hp_linear.specs.Normal.{IsNormalNum}

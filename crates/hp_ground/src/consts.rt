@@ -8,7 +8,7 @@ ghost use Rattle.hp_ground.specs.Lines.{as_constant};
 ghost use Rattle.hp_ground.specs.Answers.{AreNamesOf, ConstsFound};
 
 use hp_tree::{Decl, Sort};
-use hp_base::Names;
+use hp_defs::Names;
 use hp_names::NameIndex;
 use hp_num::{List, Text};
 use std::alloc::{AllocError, Global};

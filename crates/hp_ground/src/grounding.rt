@@ -2,7 +2,7 @@
 
 ghost use Rattle.std.specs.Prelude.{◌≡◌, ◌<◌, ◌≤◌, ◌^◌, length};
 ghost use Rattle.std.specs.List.{All};
-ghost use Rattle.hp_base.specs.Limited.{many_names};
+ghost use Rattle.hp_lit.specs.Limited.{many_names};
 ghost use Rattle.hp_norm.specs.Literals.{IsLight, IsLightClause};
 ghost use Rattle.hp_ground.specs.Ground.{IsGroundClause, consts_of};
 ghost use Rattle.hp_ground.specs.Answers.{GroundFound, LinedAs};
@@ -11,7 +11,8 @@ use crate::consts::{Consts, ConstsRead, consts_of, names_of};
 use crate::forms::clauses_are_ground;
 use crate::lines::lines_of;
 use hp_tree::{Clause, Decl, Limit, Problem, Which};
-use hp_base::{Ground, GroundErr};
+use hp_defs::Ground;
+use hp_lit::GroundErr;
 use std::alloc::Global;
 
 /// The most names of a ground problem.

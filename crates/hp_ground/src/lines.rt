@@ -2,7 +2,7 @@
 
 ghost use Rattle.std.specs.Prelude.{◌≡◌, ◌≤◌, length};
 ghost use Rattle.std.specs.List.{All, list_all};
-ghost use Rattle.hp_base.specs.Limited.{coefficient};
+ghost use Rattle.hp_lit.specs.Limited.{coefficient};
 ghost use Rattle.hp_norm.specs.Literals.{IsLightAtom, IsLightClause};
 ghost use Rattle.hp_ground.specs.Ground.{IsGroundAtom, IsGroundClause};
 ghost use Rattle.hp_ground.specs.Lines.{atoms_literals, literals_of};
@@ -11,7 +11,7 @@ ghost use Rattle.hp_ground.specs.Answers.{LineFound, LinesFound, LitsFound, Push
 use crate::consts::Consts;
 use crate::forms::is_num_atom;
 use hp_tree::{Atom, Clause, Limit, Which};
-use hp_base::{GroundErr, Line, Lit, Origin, Refusal};
+use hp_lit::{GroundErr, Line, Lit, Origin, Refusal};
 use hp_linear::literals as num_literals;
 use hp_tree::Side;
 use hp_norm::literals as idx_literals;

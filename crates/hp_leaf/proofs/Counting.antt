@@ -4,11 +4,11 @@ use Rattle.std.specs.Prelude.{slice_get}
 use Rattle.std.specs.List.{All}
 use Rattle.std.proofs.lemmas.Bool.{eqb-true, eq-eqb}
 use Rattle.std.proofs.lemmas.List.Elements.{All-head, All-tail}
-use Rattle.hp_base.specs.declared.literal.Lit.{Lit}
-use Rattle.hp_base.specs.declared.line.Line.{Line}
-use Rattle.hp_base.specs.declared.proof.Choice.{Choice}
+use Rattle.hp_lit.specs.declared.literal.Lit.{Lit}
+use Rattle.hp_lit.specs.declared.line.Line.{Line}
+use Rattle.hp_lit.specs.declared.proof.Choice.{Choice}
 use Rattle.hp_tree.specs.declared.problem.Sort.{Sort}
-use Rattle.hp_base.specs.Truth.{Values, IsTrueAt, LineIsTrue}
+use Rattle.hp_lit.specs.Truth.{Values, IsTrueAt, LineIsTrue}
 use Rattle.hp_leaf.specs.declared.tree.Node.{Node}
 use Rattle.hp_leaf.specs.declared.tree.Node.TheVariants.{Split, Leaf, Unopened}
 use Rattle.hp_leaf.specs.Tree.{lits_of, lits_at, IsLine, nothing, lit_at, Place, place_lits, children, IsOpenAt, Reads, limit}

@@ -6,11 +6,11 @@ use Rattle.hp_num.specs.declared.wide.Wide.{Wide}
 use Rattle.hp_num.specs.declared.wide.Op.TheVariants.{Plus}
 use lib.Signed.{lt_z}
 use Rattle.hp_num.specs.Wide.{plus_of, is_narrow, ◌>>=◌}
-use Rattle.hp_base.specs.declared.literal.Name.{Name}
-use Rattle.hp_base.specs.declared.literal.Lit.{Lit}
-use Rattle.hp_base.specs.declared.proof.Step.{Step}
-use Rattle.hp_base.specs.declared.literal.IdxLit.{IdxLit}
-use Rattle.hp_base.specs.Cycle.{turned, IsRowOf, AreRowsOf, Leads, bound_sum, IsValidIdx}
+use Rattle.hp_lit.specs.declared.literal.Name.{Name}
+use Rattle.hp_lit.specs.declared.literal.Lit.{Lit}
+use Rattle.hp_lit.specs.declared.proof.Step.{Step}
+use Rattle.hp_lit.specs.declared.literal.IdxLit.{IdxLit}
+use Rattle.hp_lit.specs.Cycle.{turned, IsRowOf, AreRowsOf, Leads, bound_sum, IsValidIdx}
 use Rattle.hp_leaf.specs.Check.{LinkedFrom, IsCycle, sum_from}
 
 -- a step has one row

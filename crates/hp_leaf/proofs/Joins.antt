@@ -1,10 +1,10 @@
 -- The check of a conflict goes along its equalities.
 use Rattle.std.proofs.Common.{◌≡◌, ℕ, ◌+◌, ◌<◌, ◌⊎◌, inl, inr, sym, ap, subst, List, ◌∷◌, length, drop, get_or, Option, add-one}
 use Rattle.std.proofs.Math.Seq.{drop-cons}
-use Rattle.hp_base.specs.declared.literal.Name.{Name}
-use Rattle.hp_base.specs.declared.literal.PtrLit.{PtrLit}
-use Rattle.hp_base.specs.declared.literal.Lit.{Lit}
-use Rattle.hp_leaf.specs.Pointers.{Joins, JoinsAll}
+use Rattle.hp_lit.specs.declared.literal.Name.{Name}
+use Rattle.hp_lit.specs.declared.literal.PtrLit.{PtrLit}
+use Rattle.hp_lit.specs.declared.literal.Lit.{Lit}
+use Rattle.hp_lit.specs.Pointers.{Joins, JoinsAll}
 
 -- an equality leads from a side to one other
 one_end : (path : List Lit) (n : ℕ) (a c d : Option Name) → Joins path n a c → Joins path n a d → c ≡ d

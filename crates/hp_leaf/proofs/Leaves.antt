@@ -1,16 +1,16 @@
 -- A valid leaf stands over no true literals.
 use Rattle.std.proofs.Common.{◌≡◌, ℕ, inl, inr, sym, ◌∙◌, ap, List, [], ◌∷◌, Option}
 use Rattle.std.specs.List.{All}
-use Rattle.hp_base.specs.declared.literal.Name.{Name}
-use Rattle.hp_base.specs.declared.literal.Lit.{Lit}
-use Rattle.hp_base.specs.declared.literal.Lit.TheVariants.{Ptr as PtrLiteral}
-use Rattle.hp_base.specs.Truth.{Values, IsTrueAt, optional_value}
-use Rattle.hp_base.proofs.Cycles.{no_idx_leaf}
-use Rattle.hp_base.proofs.Farkas.{no_num_leaf}
-use Rattle.hp_base.proofs.Paths.{lit_true}
+use Rattle.hp_lit.specs.declared.literal.Name.{Name}
+use Rattle.hp_lit.specs.declared.literal.Lit.{Lit}
+use Rattle.hp_lit.specs.declared.literal.Lit.TheVariants.{Ptr as PtrLiteral}
+use Rattle.hp_lit.specs.Truth.{Values, IsTrueAt, optional_value}
+use Rattle.hp_lit.proofs.Cycles.{no_idx_leaf}
+use Rattle.hp_lit.proofs.Farkas.{no_num_leaf}
+use Rattle.hp_lit.proofs.Paths.{lit_true}
 use Rattle.hp_leaf.specs.declared.tree.LeafProof.{LeafProof}
 use Rattle.hp_leaf.specs.declared.tree.LeafProof.TheVariants.{Num, Idx, Ptr}
-use Rattle.hp_leaf.specs.Pointers.{JoinsAll, IsValidPtr}
+use Rattle.hp_lit.specs.Pointers.{JoinsAll, IsValidPtr}
 use Rattle.hp_leaf.specs.Leaf.{IsValid}
 
 joined_same : (v : Values) (path : List Lit) (a b : Option Name) (ns : List ℕ) → All (IsTrueAt v) path → JoinsAll path a ns b → optional_value v a ≡ optional_value v b

@@ -1,8 +1,8 @@
 -- No line is split twice on an honest path, so a path is no longer than the list of lines.
 use Rattle.std.proofs.Common.{◌≡◌, ℕ, zero, suc, ◌+◌, ◌-◌, ◌<◌, ◌≤◌, ◌≢◌, refl, sym, ◌∙◌, ap, subst, arith, List, [], ◌∷◌, ◌++◌, length, Bool, true, false, cond, nat_eq, append_assoc, append-nil}
 use Rattle.std.proofs.lemmas.Bool.{eq-eqb}
-use Rattle.hp_base.specs.declared.line.Line.{Line}
-use Rattle.hp_base.specs.declared.proof.Choice.{Choice}
+use Rattle.hp_lit.specs.declared.line.Line.{Line}
+use Rattle.hp_lit.specs.declared.proof.Choice.{Choice}
 use Rattle.hp_tree.specs.declared.problem.Sort.{Sort}
 use Rattle.hp_leaf.specs.Tree.{IsLine, Place}
 use Rattle.hp_leaf.specs.Path.{AreIn, HonestFrom, IsHonestPath}

@@ -1,6 +1,6 @@
 -- Reading with the places that wait, and trees by nesting, are the same.
 use Rattle.std.proofs.Common.{refl, sym, subst, List, [], ◌∷◌, ◌++◌, length}
-use Rattle.hp_base.specs.declared.line.Line.{Line}
+use Rattle.hp_lit.specs.declared.line.Line.{Line}
 use Rattle.hp_leaf.specs.declared.tree.Node.{Node}
 use Rattle.hp_leaf.specs.declared.tree.Node.TheVariants.{Split, Leaf, Unopened}
 use Rattle.hp_leaf.specs.Tree.{lits_at, Place, children, Reads, Any}

@@ -1,13 +1,13 @@
 -- Evidence over some literals of a path, once each literal has its number along the path, is evidence over the path.
 use Rattle.std.proofs.Common.{◌≡◌, ℕ, zero, suc, ◌-◌, ◌+◌, ◌<◌, ◌≤◌, sym, ap, subst, arith, List, [], ◌∷◌, Some, cond, false, nat_eq}
 use Rattle.std.specs.Prelude.{slice_get, slice_index_or}
-use Rattle.hp_base.specs.declared.literal.IdxLit.{IdxLit}
-use Rattle.hp_base.specs.declared.literal.Lit.{Lit}
-use Rattle.hp_base.specs.declared.literal.Lit.TheVariants.{Num, Idx}
-use Rattle.hp_base.specs.declared.proof.Share.{Share}
-use Rattle.hp_base.specs.declared.proof.Step.{Step}
-use Rattle.hp_base.specs.Cycle.{AreRowsOf, IsLit, IsRowOf, IsValidIdx}
-use Rattle.hp_base.specs.Leaf.{AreTaken, IsRising, IsValidNum, Taken}
+use Rattle.hp_lit.specs.declared.literal.IdxLit.{IdxLit}
+use Rattle.hp_lit.specs.declared.literal.Lit.{Lit}
+use Rattle.hp_lit.specs.declared.literal.Lit.TheVariants.{Num, Idx}
+use Rattle.hp_lit.specs.declared.proof.Share.{Share}
+use Rattle.hp_lit.specs.declared.proof.Step.{Step}
+use Rattle.hp_lit.specs.Cycle.{AreRowsOf, IsLit, IsRowOf, IsValidIdx}
+use Rattle.hp_lit.specs.Leaf.{AreTaken, IsRising, IsValidNum, Taken}
 use Rattle.hp_leaf.specs.Renumbered.{RenumberingKeepsLeaves, Stands, StandsFrom, place_at, renumbered_shares, renumbered_step, renumbered_steps}
 
 -- ---- one literal, counted from 0

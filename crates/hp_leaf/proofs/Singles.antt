@@ -1,7 +1,7 @@
 -- Lines of one literal, split one below the other, and a leaf at the end: a closed tree.
 use Rattle.std.proofs.Common.{◌≡◌, ℕ, refl, sym, ap, subst, List, [], ◌∷◌, ◌++◌, length, map, append_assoc, append-nil}
-use Rattle.hp_base.specs.declared.proof.Choice.{Choice}
-use Rattle.hp_base.specs.declared.line.Line.{Line}
+use Rattle.hp_lit.specs.declared.proof.Choice.{Choice}
+use Rattle.hp_lit.specs.declared.line.Line.{Line}
 use Rattle.hp_leaf.specs.Leaf.{IsValid}
 use Rattle.hp_leaf.specs.Tree.{Any, IsClosed, IsLine, Place, Reads, children, lits_at, place_lits}
 use Rattle.hp_leaf.specs.declared.tree.LeafProof.{LeafProof}

@@ -2,16 +2,16 @@
 use Rattle.std.specs.Prelude.{◌≡◌, ℕ, ◌^◌, ◌<◌, List, [], ◌∷◌, ℤ, pos, Bool, true, false, Option, Result, Ok, Err, int_lt, unsigned_abs}
 use Rattle.hp_num.specs.declared.wide.Wide.{Wide}
 use Rattle.hp_num.specs.Wide.{plus_of, ◌>>=◌}
-use Rattle.hp_base.specs.declared.literal.Name.{Name}
-use Rattle.hp_base.specs.declared.literal.Lit.{Lit}
-use Rattle.hp_base.specs.declared.literal.Lit.TheVariants.{Num, Idx, Ptr}
-use Rattle.hp_base.specs.declared.literal.IdxLit.{IdxLit}
-use Rattle.hp_base.specs.declared.proof.Step.{Step}
-use Rattle.hp_base.specs.Cycle.{AreRowsOf, Leads}
+use Rattle.hp_lit.specs.declared.literal.Name.{Name}
+use Rattle.hp_lit.specs.declared.literal.Lit.{Lit}
+use Rattle.hp_lit.specs.declared.literal.Lit.TheVariants.{Num, Idx, Ptr}
+use Rattle.hp_lit.specs.declared.literal.IdxLit.{IdxLit}
+use Rattle.hp_lit.specs.declared.proof.Step.{Step}
+use Rattle.hp_lit.specs.Cycle.{AreRowsOf, Leads}
 use Rattle.hp_farkas.specs.Check.{IsChecked as IsCheckedCombination}
 use Rattle.hp_leaf.specs.declared.tree.LeafProof.{LeafProof}
 use Rattle.hp_leaf.specs.declared.tree.LeafProof.TheVariants.{Num as NumLeaf, Idx as IdxLeaf, Ptr as PtrLeaf}
-use Rattle.hp_leaf.specs.Pointers.{IsValidPtr}
+use Rattle.hp_lit.specs.Pointers.{IsValidPtr}
 
 -- the bound of a literal over whole numbers has a magnitude of at most 2^127 - 1
 abbrev pub HasNarrowBound : Lit → Type 0

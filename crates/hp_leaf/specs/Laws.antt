@@ -1,9 +1,9 @@
 -- What trees say.
 use Rattle.std.specs.Prelude.{ℕ, ◌<◌, List}
 use Rattle.std.specs.List.{All}
-use Rattle.hp_base.specs.declared.line.Line.{Line}
+use Rattle.hp_lit.specs.declared.line.Line.{Line}
 use Rattle.hp_tree.specs.declared.problem.Sort.{Sort}
-use Rattle.hp_base.specs.Truth.{Values, LineIsTrue}
+use Rattle.hp_lit.specs.Truth.{Values, LineIsTrue}
 use Rattle.hp_leaf.specs.declared.tree.Node.{Node}
 use Rattle.hp_leaf.specs.Tree.{IsClosed, IsSpent, limit}
 

@@ -1,4 +1,3 @@
-pub mod Pointers
 pub mod Leaf
 pub mod Check
 pub mod Tree

@@ -1,6 +1,6 @@
 -- The same trees by nesting: below a split stand the trees of its children, and then what comes after the split.
 use Rattle.std.specs.Prelude.{List, [], ◌∷◌, length}
-use Rattle.hp_base.specs.declared.line.Line.{Line}
+use Rattle.hp_lit.specs.declared.line.Line.{Line}
 use Rattle.hp_leaf.specs.declared.tree.LeafProof.{LeafProof}
 use Rattle.std.specs.Prelude.{ℕ, ◌↔◌}
 use Rattle.hp_leaf.specs.declared.tree.Node.{Node}

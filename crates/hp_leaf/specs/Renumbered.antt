@@ -1,10 +1,10 @@
 -- Evidence over some literals of a path, with the literals' own numbers and with those along the path.
 use Rattle.std.specs.Prelude.{ℕ, ◌+◌, ◌-◌, ◌≤◌, List, [], ◌∷◌, map, nat_eq, slice_index_or, if◌then◌else◌}
-use Rattle.hp_base.specs.declared.literal.Lit.{Lit}
-use Rattle.hp_base.specs.declared.proof.Share.{Share}
-use Rattle.hp_base.specs.declared.proof.Step.{Step}
-use Rattle.hp_base.specs.Cycle.{IsLit, IsValidIdx}
-use Rattle.hp_base.specs.Leaf.{IsValidNum}
+use Rattle.hp_lit.specs.declared.literal.Lit.{Lit}
+use Rattle.hp_lit.specs.declared.proof.Share.{Share}
+use Rattle.hp_lit.specs.declared.proof.Step.{Step}
+use Rattle.hp_lit.specs.Cycle.{IsLit, IsValidIdx}
+use Rattle.hp_lit.specs.Leaf.{IsValidNum}
 
 -- the n-th place, counted from 1, or 0 where there is none
 abbrev pub place_at : List ℕ → ℕ → ℕ

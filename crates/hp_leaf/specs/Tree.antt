@@ -2,13 +2,13 @@
 use Rattle.std.specs.Prelude.{◌≡◌, ℕ, zero, suc, ◌-◌, ◌*◌, ◌<◌, ◌≤◌, List, [], ◌∷◌, ◌++◌, length, map, pos, Option, Some, None, slice_get, slice_index_or, false}
 use Rattle.std.specs.List.{All}
 use Rattle.std.proofs.Math.ListN.{replicate}
-use Rattle.hp_base.specs.declared.literal.Lit.{Lit}
-use Rattle.hp_base.specs.declared.literal.Lit.TheVariants.{Idx}
-use Rattle.hp_base.specs.declared.line.Line.{Line}
-use Rattle.hp_base.specs.declared.proof.Choice.{Choice}
+use Rattle.hp_lit.specs.declared.literal.Lit.{Lit}
+use Rattle.hp_lit.specs.declared.literal.Lit.TheVariants.{Idx}
+use Rattle.hp_lit.specs.declared.line.Line.{Line}
+use Rattle.hp_lit.specs.declared.proof.Choice.{Choice}
 use Rattle.hp_tree.specs.declared.problem.Sort.{Sort}
-use Rattle.hp_base.specs.Sorts.{AreOfSorts}
-use Rattle.hp_base.specs.Truth.{Values, IsTrueAt, LineIsTrue}
+use Rattle.hp_lit.specs.Sorts.{AreOfSorts}
+use Rattle.hp_lit.specs.Truth.{Values, IsTrueAt, LineIsTrue}
 use Rattle.hp_leaf.specs.declared.tree.Node.{Node}
 use Rattle.hp_leaf.specs.declared.tree.Node.TheVariants.{Split, Leaf, Unopened}
 use Rattle.hp_leaf.specs.Leaf.{IsValid}

@@ -2,12 +2,12 @@
 //! they begin, and only then the sum of their bounds, step by step.
 ghost use Rattle.std.specs.Prelude.{◌≡◌, List, Option, Ok, pos, IfSome, IfNone, true, false};
 ghost use Rattle.std.specs.List.{All};
-ghost use Rattle.hp_base.specs.declared.literal.IdxLit.{IdxLit};
-ghost use Rattle.hp_base.specs.Cycle.{AreRowsOf, IsRowOf, IsValidIdx, turned};
+ghost use Rattle.hp_lit.specs.declared.literal.IdxLit.{IdxLit};
+ghost use Rattle.hp_lit.specs.Cycle.{AreRowsOf, IsRowOf, IsValidIdx, turned};
 ghost use Rattle.hp_leaf.specs.Check.{HasNarrowBound, IsCheckedCycle, IsCycle, LinkedFrom, sum_from};
 
 use crate::side::is_same;
-use hp_base::{IdxLit, Lit, Name, Step};
+use hp_lit::{IdxLit, Lit, Name, Step};
 use hp_num::{Wide, plus};
 
 /// The sum so far.

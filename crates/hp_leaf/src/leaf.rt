@@ -7,7 +7,7 @@ ghost use Rattle.hp_leaf.specs.Leaf.{IsValid};
 use crate::cycle::check_idx;
 use crate::pointer::check_ptr;
 use crate::tree::LeafProof;
-use hp_base::Lit;
+use hp_lit::Lit;
 use hp_farkas::check_num;
 use hp_num::Wide;
 

@@ -1,11 +1,11 @@
 //! The check of a conflict of pointers: an inequality, and equalities that lead from its left to its right name.
 //! Nothing is added, so nothing can pass 128 bits.
 ghost use Rattle.std.specs.Prelude.{◌≡◌, Option, IfSome, IfNone, true, false};
-ghost use Rattle.hp_base.specs.declared.literal.Name.{Name};
-ghost use Rattle.hp_leaf.specs.Pointers.{IsValidPtr, Joins, JoinsAll};
+ghost use Rattle.hp_lit.specs.declared.literal.Name.{Name};
+ghost use Rattle.hp_lit.specs.Pointers.{IsValidPtr, Joins, JoinsAll};
 
 use crate::side::is_same;
-use hp_base::{Lit, Name};
+use hp_lit::{Lit, Name};
 
 /// The side that an equality leads to.
 #[derive(Clone, Copy)]

@@ -3,7 +3,7 @@
 ghost use Rattle.std.specs.Prelude.{◌≡◌, IfOk};
 ghost use Rattle.hp_leaf.specs.Renumbered.{place_at, renumbered_share, renumbered_shares, renumbered_step, renumbered_steps};
 
-use hp_base::{Share, Step};
+use hp_lit::{Share, Step};
 use hp_num::List;
 use std::alloc::{AllocError, Global};
 

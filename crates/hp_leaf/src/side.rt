@@ -1,7 +1,7 @@
 //! The two sides of a literal over whole numbers or pointers: each a name, or none.
 ghost use Rattle.std.specs.Prelude.{◌≡◌, true, false};
 
-use hp_base::Name;
+use hp_lit::Name;
 
 /// Whether two sides are the same name, or both none.
 pub fn is_same(left: Option<Name>, right: Option<Name>) -> bool

@@ -2,7 +2,7 @@
 //!
 //! A tree is a list of nodes in preorder: a split is followed by the trees of its children, one for each literal of
 //! its line. So a split on a line without literals closes its place alone.
-use hp_base::{Share, Step};
+use hp_lit::{Share, Step};
 use hp_num::List;
 
 /// Evidence that the literals of a path can't all be true. Literals count from 1, from the root on.

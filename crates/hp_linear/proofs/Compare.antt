@@ -6,9 +6,9 @@ use Rattle.hp_math.proofs.Whole.{*ℤ_mono, *ℤ_smono, *ℤ-≤_cancel, *ℤ-<_
 use Rattle.hp_math.proofs.Rational.{ratio-≤, ratio-≤_out, ratio-<, ratio-<_out, ratio-inj}
 use Rattle.hp_math.proofs.Field.{at_one, by_common1, by_common2, fractions, whole_at, whole_times_at}
 use Rattle.hp_math.proofs.Laws.{neg_ℚ-neg_ℚ, whole-neg}
-use Rattle.hp_base.specs.declared.literal.Rel.{Rel}
-use Rattle.hp_base.specs.declared.literal.Rel.TheVariants.{Le, Lt, Eq}
-use Rattle.hp_base.specs.Truth.{Compares}
+use Rattle.hp_lit.specs.declared.literal.Rel.{Rel}
+use Rattle.hp_lit.specs.declared.literal.Rel.TheVariants.{Le, Lt, Eq}
+use Rattle.hp_lit.specs.Truth.{Compares}
 
 pub and_then : {A B C : Type 0} → A ↔ B → B ↔ C → A ↔ C
 and_then h g = (λ a. g.0 (h.0 a), λ c. h.1 (g.1 c))

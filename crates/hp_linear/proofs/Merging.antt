@@ -5,9 +5,9 @@ use Rattle.std.proofs.lemmas.List.{drop_all, take_all}
 use Rattle.hp_math.specs.Rational.{ℚ, whole, eq_ℚ}
 use Rattle.hp_num.specs.Wide.{◌>>=◌}
 use Rattle.hp_tree.proofs.Compares.{eq_ℚ-true, eq_ℚ-from}
-use Rattle.hp_base.specs.declared.literal.Name.{Name}
+use Rattle.hp_lit.specs.declared.literal.Name.{Name}
 use Rattle.hp_linear.specs.declared.form.Summand.{Summand}
-use Rattle.hp_base.specs.declared.refusal.Refusal.{Refusal}
+use Rattle.hp_lit.specs.declared.refusal.Refusal.{Refusal}
 use Rattle.hp_linear.specs.declared.summands.Taken.TheVariants.{Left, Right, Both}
 use Rattle.hp_linear.specs.Steps.{Refusable, behind}
 use Rattle.hp_linear.specs.Forms.{copies, plus_summands, sum_of, unless_zero}

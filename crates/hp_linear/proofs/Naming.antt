@@ -1,7 +1,7 @@
 -- The forms of 0 and of a name.
 use Rattle.std.proofs.Common.{◌≡◌, pos, List, [], ◌∷◌, Option, Some, sym, ap, ◌∙◌}
 use Rattle.hp_math.specs.Rational.{ℚ, ratio, whole}
-use Rattle.hp_base.specs.declared.literal.Name.{Name}
+use Rattle.hp_lit.specs.declared.literal.Name.{Name}
 use Rattle.hp_linear.specs.declared.form.Summand.{Summand}
 use Rattle.hp_linear.specs.Forms.{copies, form_with, named_form, number_form, zero_form}
 

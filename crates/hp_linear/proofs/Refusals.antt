@@ -2,8 +2,8 @@
 use Rattle.std.proofs.Common.{◌≡◌, List, [], ◌++◌, Result, Ok, Err, IfOk, refl, sym, ap, subst, append_assoc}
 use Rattle.hp_num.specs.declared.wide.Wide.{Wide as TooWide}
 use Rattle.hp_num.specs.Wide.{◌>>=◌}
-use Rattle.hp_base.specs.declared.refusal.Refusal.{Refusal}
-use Rattle.hp_base.specs.declared.refusal.Refusal.TheVariants.{Wide, Memory}
+use Rattle.hp_lit.specs.declared.refusal.Refusal.{Refusal}
+use Rattle.hp_lit.specs.declared.refusal.Refusal.TheVariants.{Wide, Memory}
 use Rattle.hp_linear.specs.Steps.{Refusable, behind, unless_wide}
 use Rattle.hp_linear.specs.Answers.{Answers}
 

@@ -17,14 +17,14 @@ use Rattle.hp_num.proofs.Bits.{Gave, times_gave}
 use Rattle.hp_num.proofs.Reduce.{whole_quotient}
 use Rattle.hp_num.specs.Divisor.{gcd}
 use Rattle.hp_num.proofs.Given.{came}
-use Rattle.hp_base.specs.declared.literal.Part.{Part}
-use Rattle.hp_base.specs.declared.literal.Rel.{Rel}
-use Rattle.hp_base.specs.Truth.{Values, Compares, IsTrueAt, name_value, parts_value}
-use Rattle.hp_base.specs.declared.literal.Lit.{Lit}
+use Rattle.hp_lit.specs.declared.literal.Part.{Part}
+use Rattle.hp_lit.specs.declared.literal.Rel.{Rel}
+use Rattle.hp_lit.specs.Truth.{Values, Compares, IsTrueAt, name_value, parts_value}
+use Rattle.hp_lit.specs.declared.literal.Lit.{Lit}
 use Rattle.hp_linear.specs.declared.form.Summand.{Summand}
 use Rattle.hp_linear.specs.declared.form.Form.{Form}
 use Rattle.hp_linear.specs.declared.wholes.Row.{Row}
-use Rattle.hp_base.specs.declared.refusal.Refusal.TheVariants.{Wide}
+use Rattle.hp_lit.specs.declared.refusal.Refusal.TheVariants.{Wide}
 use Rattle.hp_linear.specs.Steps.{behind, unless_wide}
 use Rattle.hp_linear.specs.Forms.{minus_form}
 use Rattle.hp_linear.specs.Wholes.{denominator_of, lcm_of, lowest_row, multiple_of, one_if_zero, over, parts_divisor, row_divisor, row_of, row_over, row_with, scaled_number, scaled_parts, scaled_row, whole_copies}

@@ -8,10 +8,10 @@ use Rattle.hp_num.specs.Wide.{◌>>=◌}
 use Rattle.hp_num.proofs.Given.{came}
 use Rattle.hp_tree.specs.declared.term.Term.{Term, fold-roll-Term, ind-Term, roll-Term, map-Term}
 use Rattle.hp_tree.specs.declared.term.Term.TheOpen.{Term-F}
-use Rattle.hp_base.specs.declared.literal.Name.{Name}
-use Rattle.hp_base.specs.Truth.{Values, name_value}
-use Rattle.hp_base.specs.Words.{Word, Agrees, number}
-use Rattle.hp_base.proofs.Words.{word_value}
+use Rattle.hp_lit.specs.declared.literal.Name.{Name}
+use Rattle.hp_lit.specs.Truth.{Values, name_value}
+use Rattle.hp_lit.specs.Words.{Word, Agrees, number}
+use Rattle.hp_lit.proofs.Words.{word_value}
 use Rattle.hp_tree.specs.Value.{Names, Functions, value, value_step}
 use Rattle.hp_linear.specs.declared.form.Form.{Form}
 use Rattle.hp_linear.specs.Steps.{Refusable}

@@ -6,10 +6,10 @@ use Rattle.hp_num.specs.Wide.{◌>>=◌}
 use Rattle.hp_num.proofs.Given.{came}
 use Rattle.hp_tree.specs.declared.problem.Cmp.{Cmp}
 use Rattle.hp_tree.specs.declared.problem.Cmp.TheVariants.{Le, Lt, Eq, Ne, Ge, Gt}
-use Rattle.hp_base.specs.declared.literal.Rel.{Rel}
-use Rattle.hp_base.specs.declared.literal.Rel.TheVariants as rel
-use Rattle.hp_base.specs.declared.literal.Lit.{Lit}
-use Rattle.hp_base.specs.Truth.{Values, Compares, LineIsTrue}
+use Rattle.hp_lit.specs.declared.literal.Rel.{Rel}
+use Rattle.hp_lit.specs.declared.literal.Rel.TheVariants as rel
+use Rattle.hp_lit.specs.declared.literal.Lit.{Lit}
+use Rattle.hp_lit.specs.Truth.{Values, Compares, LineIsTrue}
 use Rattle.hp_tree.specs.Value.{compares}
 use Rattle.hp_tree.specs.Sides.{asked, taken}
 use Rattle.hp_tree.proofs.Compares.{eq_ℚ-from, eq_ℚ-true, le_ℚ-from, less_differs, lt_ℚ-from, more_differs, not_true, one_less, taken_asks}

@@ -5,8 +5,8 @@ use Rattle.hp_math.specs.Rational.{ℚ, whole, ◌+ℚ◌, ◌-ℚ◌, ◌*ℚ�
 use Rattle.hp_math.proofs.Field.{+ℚ_zero, +ℚ_assoc, *ℚ-+ℚ}
 use Rattle.hp_num.specs.Wide.{add_of, mul_of, ◌>>=◌}
 use Rattle.hp_num.proofs.Given.{came, add_gave, mul_gave}
-use Rattle.hp_base.specs.declared.literal.Name.{Name}
-use Rattle.hp_base.specs.Truth.{Values, name_value}
+use Rattle.hp_lit.specs.declared.literal.Name.{Name}
+use Rattle.hp_lit.specs.Truth.{Values, name_value}
 use Rattle.hp_tree.proofs.Compares.{eq_ℚ-true}
 use Rattle.hp_linear.specs.declared.form.Summand.{Summand}
 use Rattle.hp_linear.specs.declared.form.Form.{Form}

@@ -1,10 +1,10 @@
 -- What the calls answer.
 use Rattle.std.specs.Prelude.{◌≡◌, ℕ, List, ◌∷◌, ◌++◌, Result, Ok, Err}
 use Rattle.std.specs.List.{All}
-use Rattle.hp_base.specs.declared.literal.Lit.{Lit}
-use Rattle.hp_base.specs.declared.refusal.Refusal.{Refusal}
-use Rattle.hp_base.specs.declared.refusal.Refusal.TheVariants.{Wide, Memory}
-use Rattle.hp_base.specs.Growing.{Begins}
+use Rattle.hp_lit.specs.declared.literal.Lit.{Lit}
+use Rattle.hp_lit.specs.declared.refusal.Refusal.{Refusal}
+use Rattle.hp_lit.specs.declared.refusal.Refusal.TheVariants.{Wide, Memory}
+use Rattle.hp_lit.specs.Growing.{Begins}
 use Rattle.hp_linear.specs.declared.form.Summand.{Summand}
 use Rattle.hp_linear.specs.declared.summands.Taken.{Taken}
 use Rattle.hp_linear.specs.declared.summands.Taken.TheVariants.{Left, Right, Both}

@@ -2,9 +2,9 @@
 use Rattle.std.specs.Prelude.{◌≡◌, ◌↔◌, ℕ, List, true, Ok}
 use Rattle.hp_tree.specs.declared.term.Term.{Term}
 use Rattle.hp_tree.specs.declared.problem.Atom.{Atom}
-use Rattle.hp_base.specs.declared.literal.Lit.{Lit}
-use Rattle.hp_base.specs.Truth.{Values, LineIsTrue}
-use Rattle.hp_base.specs.Words.{Word, Agrees}
+use Rattle.hp_lit.specs.declared.literal.Lit.{Lit}
+use Rattle.hp_lit.specs.Truth.{Values, LineIsTrue}
+use Rattle.hp_lit.specs.Words.{Word, Agrees}
 use Rattle.hp_tree.specs.declared.sides.Side.{Side}
 use Rattle.hp_tree.specs.Sides.{asked}
 use Rattle.hp_tree.specs.Value.{Names, Functions, value, atom_is_true}

@@ -2,8 +2,8 @@
 use Rattle.std.specs.Prelude.{List, ◌++◌, Result, Ok, Err}
 use Rattle.hp_num.specs.declared.wide.Wide.{Wide as TooWide}
 use Rattle.hp_num.specs.Wide.{◌>>=◌}
-use Rattle.hp_base.specs.declared.refusal.Refusal.{Refusal}
-use Rattle.hp_base.specs.declared.refusal.Refusal.TheVariants.{Wide}
+use Rattle.hp_lit.specs.declared.refusal.Refusal.{Refusal}
+use Rattle.hp_lit.specs.declared.refusal.Refusal.TheVariants.{Wide}
 
 -- a computation that gives a value, or is refused
 abbrev pub Refusable : Type 0 → Type 0

@@ -1,7 +1,7 @@
 -- What forms mean: the value of a form at values of the constants.
 use Rattle.std.specs.Prelude.{List, [], ◌∷◌, pos}
 use Rattle.hp_math.specs.Rational.{ℚ, whole, ◌+ℚ◌, ◌*ℚ◌}
-use Rattle.hp_base.specs.Truth.{Values, name_value}
+use Rattle.hp_lit.specs.Truth.{Values, name_value}
 use Rattle.hp_linear.specs.declared.form.Summand.{Summand}
 use Rattle.hp_linear.specs.declared.form.Form.{Form}
 

@@ -4,11 +4,11 @@ use Rattle.std.specs.List.{All}
 use Rattle.hp_math.specs.Rational.{ℚ}
 use Rattle.hp_num.specs.Wide.{times_of, ◌>>=◌}
 use Rattle.hp_num.specs.Divisor.{gcd}
-use Rattle.hp_base.specs.declared.literal.Name.{Name}
-use Rattle.hp_base.specs.declared.literal.Part.{Part}
+use Rattle.hp_lit.specs.declared.literal.Name.{Name}
+use Rattle.hp_lit.specs.declared.literal.Part.{Part}
 use Rattle.hp_linear.specs.declared.form.Summand.{Summand}
 use Rattle.hp_linear.specs.declared.form.Form.{Form}
-use Rattle.hp_base.specs.declared.refusal.Refusal.TheVariants.{Wide}
+use Rattle.hp_lit.specs.declared.refusal.Refusal.TheVariants.{Wide}
 use Rattle.hp_linear.specs.declared.wholes.Row.{Row}
 use Rattle.hp_linear.specs.Steps.{Refusable, behind, unless_wide}
 

@@ -8,7 +8,7 @@ use crate::collect::collect;
 use crate::form::{Form, minus};
 use crate::wholes::row_of;
 use hp_tree::{Atom, Cmp};
-use hp_base::{Lit, NumLit, Refusal, Rel};
+use hp_lit::{Lit, NumLit, Refusal, Rel};
 use hp_tree::{Side, taken};
 use hp_names::NameIndex;
 use hp_num::List;

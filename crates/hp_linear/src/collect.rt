@@ -1,13 +1,13 @@
 //! The linear form of a term, from inside out, the left operand first.
 
 ghost use Rattle.std.specs.Prelude.{◌≡◌, ◌≤◌, length};
-ghost use Rattle.hp_base.specs.Words.{number};
+ghost use Rattle.hp_lit.specs.Words.{number};
 ghost use Rattle.hp_linear.specs.Forms.{lin_of};
 ghost use Rattle.hp_linear.specs.Answers.{Answers};
 
 use crate::form::{Form, minus, named, negated, number, plus, times, zero};
 use hp_tree::Term;
-use hp_base::{Name, Refusal};
+use hp_lit::{Name, Refusal};
 use hp_names::NameIndex;
 use std::alloc::Global;
 

@@ -8,7 +8,7 @@ ghost use Rattle.hp_linear.specs.Answers.{Answers};
 
 use crate::numbers::{product, sum};
 use crate::summands::{merged, multiplied, negated as negated_summands, push};
-use hp_base::{Name, Refusal};
+use hp_lit::{Name, Refusal};
 use hp_num::{Frac, List};
 use std::alloc::Global;
 

@@ -5,7 +5,7 @@ ghost use Rattle.hp_linear.specs.Steps.{unless_wide};
 ghost use Rattle.hp_linear.specs.Forms.{sum_of, product_of};
 ghost use Rattle.hp_linear.specs.Wholes.{lcm_of, scaled_number};
 
-use hp_base::Refusal;
+use hp_lit::Refusal;
 use hp_num::{Frac, gcd, times};
 
 /// The sum of two fractions.

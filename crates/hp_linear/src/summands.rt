@@ -1,13 +1,13 @@
 //! Lists of summands: their sums, as merges of two sorted lists, their negations and their multiples.
 
 ghost use Rattle.std.specs.Prelude.{◌≡◌, ◌<◌, ◌++◌, ◌∷◌, [], map, Ok, Err, OnOk, IfOk, IfErr, length};
-ghost use Rattle.hp_base.specs.declared.refusal.Refusal.TheVariants.{Memory};
+ghost use Rattle.hp_lit.specs.declared.refusal.Refusal.TheVariants.{Memory};
 ghost use Rattle.hp_linear.specs.Forms.{copies, neg_summand, plus_summands, times_summands, unless_zero};
 ghost use Rattle.hp_linear.specs.Answers.{Answers, Took};
 
 use crate::form::Summand;
 use crate::numbers::{product, sum};
-use hp_base::{Name, Refusal};
+use hp_lit::{Name, Refusal};
 use hp_num::{Frac, List};
 use std::alloc::Global;
 

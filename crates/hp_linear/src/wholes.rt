@@ -3,13 +3,13 @@
 ghost use Rattle.std.specs.Prelude.{◌≡◌, ◌<◌, ◌^◌, ◌++◌, ◌∷◌, [], map, Ok, OnOk, IfOk, IfErr, unsigned_abs};
 ghost use Rattle.std.specs.List.{All};
 ghost use Rattle.hp_num.specs.Divisor.{gcd};
-ghost use Rattle.hp_base.specs.declared.refusal.Refusal.TheVariants.{Memory};
+ghost use Rattle.hp_lit.specs.declared.refusal.Refusal.TheVariants.{Memory};
 ghost use Rattle.hp_linear.specs.Wholes.{IsNarrowPart, IsNarrowRow, denominator_of, lowest_row, multiple_of, one_if_zero, over, parts_divisor, row_divisor, row_of, scaled_parts, scaled_row, whole_copies};
 ghost use Rattle.hp_linear.specs.Answers.{Answers};
 
 use crate::form::{Form, Summand};
 use crate::numbers::{lcm, magnitude, scaled};
-use hp_base::{Name, Part, Refusal};
+use hp_lit::{Name, Part, Refusal};
 use hp_num::{List, gcd};
 use std::alloc::Global;
 

@@ -4,10 +4,10 @@ use Rattle.hp_math.specs.Rational.{ℚ, whole, ◌+ℚ◌, ◌-ℚ◌, neg_ℚ, 
 use Rattle.hp_math.proofs.Field.{+ℚ_zero, +ℚ_comm, +ℚ_assoc}
 use Rattle.hp_tree.specs.declared.term.Term.{Term, fold-roll-Term, ind-Term, roll-Term, map-Term}
 use Rattle.hp_tree.specs.declared.term.Term.TheOpen.{Term-F}
-use Rattle.hp_base.specs.declared.literal.Name.{Name}
-use Rattle.hp_base.specs.Truth.{Values, name_value, optional_value}
-use Rattle.hp_base.specs.Words.{Word, Agrees, number}
-use Rattle.hp_base.proofs.Words.{word_value}
+use Rattle.hp_lit.specs.declared.literal.Name.{Name}
+use Rattle.hp_lit.specs.Truth.{Values, name_value, optional_value}
+use Rattle.hp_lit.specs.Words.{Word, Agrees, number}
+use Rattle.hp_lit.proofs.Words.{word_value}
 use Rattle.hp_tree.specs.Value.{Names, Functions, value, value_step}
 use Rattle.hp_norm.specs.declared.collect.Shape.{Shape}
 use Rattle.hp_norm.specs.declared.collect.Shape.TheVariants.{Number, Sum, Other}

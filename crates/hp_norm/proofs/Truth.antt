@@ -5,10 +5,10 @@ use Rattle.hp_math.specs.Rational.{whole, ◌-ℚ◌, ◌≤ℚ◌, ◌<ℚ◌, 
 use Rattle.hp_math.proofs.Field.{+ℚ-neg_ℚ, ≤ℚ_refl, le_ℚ-true, lt_ℚ-true}
 use Rattle.hp_tree.specs.declared.problem.Cmp.{Cmp}
 use Rattle.hp_tree.specs.declared.problem.Cmp.TheVariants.{Le, Lt, Eq, Ne, Ge, Gt}
-use Rattle.hp_base.specs.declared.literal.Name.{Name}
-use Rattle.hp_base.specs.declared.literal.Rel.{Rel}
-use Rattle.hp_base.specs.declared.literal.Rel.TheVariants as rel
-use Rattle.hp_base.specs.Truth.{Values, name_value, optional_value, Compares, IdxIsTrue, LineIsTrue}
+use Rattle.hp_lit.specs.declared.literal.Name.{Name}
+use Rattle.hp_lit.specs.declared.literal.Rel.{Rel}
+use Rattle.hp_lit.specs.declared.literal.Rel.TheVariants as rel
+use Rattle.hp_lit.specs.Truth.{Values, name_value, optional_value, Compares, IdxIsTrue, LineIsTrue}
 use Rattle.hp_tree.specs.Sides.{asked, taken}
 use Rattle.hp_tree.specs.Value.{compares}
 use Rattle.hp_tree.proofs.Compares.{le_ℚ-from, lt_ℚ-from, eq_ℚ-from, eq_ℚ-true, less_differs, more_differs, not_true, one_less, taken_asks}

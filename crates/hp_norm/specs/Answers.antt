@@ -2,11 +2,11 @@
 use Rattle.std.specs.Prelude.{◌≡◌, List, ◌++◌, Result, Ok, Err}
 use Rattle.std.specs.List.{All}
 use Rattle.hp_tree.specs.declared.problem.Atom.{Atom}
-use Rattle.hp_base.specs.declared.literal.Lit.{Lit}
-use Rattle.hp_base.specs.declared.refusal.Refusal.{Refusal}
-use Rattle.hp_base.specs.declared.refusal.Refusal.TheVariants.{Wide, Memory}
-use Rattle.hp_base.specs.Growing.{Begins}
-use Rattle.hp_base.specs.Words.{Word}
+use Rattle.hp_lit.specs.declared.literal.Lit.{Lit}
+use Rattle.hp_lit.specs.declared.refusal.Refusal.{Refusal}
+use Rattle.hp_lit.specs.declared.refusal.Refusal.TheVariants.{Wide, Memory}
+use Rattle.hp_lit.specs.Growing.{Begins}
+use Rattle.hp_lit.specs.Words.{Word}
 use Rattle.hp_tree.specs.declared.sides.Side.{Side}
 use Rattle.hp_norm.specs.Literals.{HasSmallBound, IsLightAtom, atom_literals}
 

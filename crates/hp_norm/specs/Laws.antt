@@ -3,8 +3,8 @@ use Rattle.std.specs.Prelude.{◌≡◌, ◌↔◌, List, true}
 use Rattle.hp_math.specs.Rational.{is_whole}
 use Rattle.hp_tree.specs.declared.term.Term.{Term}
 use Rattle.hp_tree.specs.declared.problem.Atom.{Atom}
-use Rattle.hp_base.specs.Truth.{Values, LineIsTrue, optional_value}
-use Rattle.hp_base.specs.Words.{Word, Agrees}
+use Rattle.hp_lit.specs.Truth.{Values, LineIsTrue, optional_value}
+use Rattle.hp_lit.specs.Words.{Word, Agrees}
 use Rattle.hp_tree.specs.declared.sides.Side.{Side}
 use Rattle.hp_tree.specs.Sides.{asked}
 use Rattle.hp_tree.specs.Value.{Names, Functions, atom_is_true, value}

@@ -1,6 +1,6 @@
 -- What forms mean: the value of a form at values of the names.
 use Rattle.hp_math.specs.Rational.{ℚ, whole, ◌+ℚ◌}
-use Rattle.hp_base.specs.Truth.{Values, optional_value}
+use Rattle.hp_lit.specs.Truth.{Values, optional_value}
 use Rattle.hp_norm.specs.declared.collect.Form.{Form}
 
 abbrev pub form_value : Values → Form → ℚ

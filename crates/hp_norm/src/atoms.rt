@@ -1,7 +1,7 @@
 //! The literals of atoms: each says a bound on the difference of two names.
 
 ghost use Rattle.std.specs.Prelude.{◌≡◌, ◌<◌, ◌^◌, ◌-ℤ◌, ◌∷◌, [], MatchOption, length};
-ghost use Rattle.hp_base.specs.declared.literal.Lit.TheVariants.{Idx};
+ghost use Rattle.hp_lit.specs.declared.literal.Lit.TheVariants.{Idx};
 ghost use Rattle.hp_tree.specs.declared.problem.Cmp.TheVariants.{Ne};
 ghost use Rattle.hp_norm.specs.Forms.{IsSmall};
 ghost use Rattle.hp_norm.specs.Literals.{IsLightAtom, are_index_sides, bound_of, cancel, compared, is_index_atom, literals};
@@ -9,7 +9,7 @@ ghost use Rattle.hp_norm.specs.Answers.{AtomPushed, Pushed};
 
 use crate::collect::{Form, Shape, collect, small};
 use hp_tree::{Atom, Cmp};
-use hp_base::{IdxLit, Lit, Name, Refusal, Rel};
+use hp_lit::{IdxLit, Lit, Name, Refusal, Rel};
 use hp_tree::{Side, taken};
 use hp_names::NameIndex;
 use hp_num::List;

@@ -3,11 +3,11 @@
 //! No number that is collected passes 10^25 in magnitude, so that no sum of two of them wraps.
 
 ghost use Rattle.std.specs.Prelude.{◌≡◌, ◌<◌, ◌≤◌, ◌^◌, ◌+ℤ◌, MatchOption, length};
-ghost use Rattle.hp_base.specs.Words.{number};
+ghost use Rattle.hp_lit.specs.Words.{number};
 ghost use Rattle.hp_norm.specs.Forms.{IsSmall, IsSmallShape, is_index_shape, largest, minus_shape, named_shape, neg_shape, number_shape, plus_shape, shape_form, shape_of, shifted, weight};
 
 use hp_tree::Term;
-use hp_base::Name;
+use hp_lit::Name;
 use hp_names::NameIndex;
 use hp_num::Frac;
 

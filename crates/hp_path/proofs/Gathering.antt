@@ -7,12 +7,12 @@ use Rattle.std.proofs.lemmas.List.{append-nil, drop_all, get_or-set_other, get_o
 use Rattle.std.proofs.lemmas.List.Elements.{All-append, All-contains, All-cons, All-filter, All-head, All-map, All-more, All-nil, All-tail, All-weaker, filter_passes}
 use Rattle.hp_tree.specs.declared.problem.Sort.{Sort}
 use Rattle.hp_tree.specs.declared.problem.Sort.TheVariants as sort
-use Rattle.hp_base.specs.declared.literal.Part.{Part}
-use Rattle.hp_base.specs.declared.literal.NumLit.{NumLit}
-use Rattle.hp_base.specs.declared.literal.Lit.{Lit}
-use Rattle.hp_base.specs.declared.literal.Lit.TheVariants.{Num}
-use Rattle.hp_base.specs.declared.valuation.NameValue.{NameValue}
-use Rattle.hp_base.specs.Truth.{NumIsTrue}
+use Rattle.hp_lit.specs.declared.literal.Part.{Part}
+use Rattle.hp_lit.specs.declared.literal.NumLit.{NumLit}
+use Rattle.hp_lit.specs.declared.literal.Lit.{Lit}
+use Rattle.hp_lit.specs.declared.literal.Lit.TheVariants.{Num}
+use Rattle.hp_lit.specs.declared.valuation.NameValue.{NameValue}
+use Rattle.hp_lit.specs.Truth.{NumIsTrue}
 use Rattle.hp_descent.specs.Columns.{columns, mentioned, part_names}
 use Rattle.hp_descent.specs.Answers.{IsSolution}
 use Rattle.hp_descent.proofs.Rising.{columns_are_names}

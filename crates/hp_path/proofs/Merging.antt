@@ -7,8 +7,8 @@ use Rattle.std.proofs.lemmas.List.{drop_more, get_or-map, length-map, length-tak
 use Rattle.std.proofs.lemmas.List.Elements.{All-contains, All-contains_itself, All-head, All-map, All-nil, All-weaker, All-more, All-take, Contains-get_or}
 use Rattle.hp_tree.specs.declared.problem.Sort.{Sort}
 use Rattle.hp_tree.specs.declared.problem.Sort.TheVariants as sort
-use Rattle.hp_base.specs.declared.literal.Part.{Part}
-use Rattle.hp_base.specs.declared.literal.NumLit.{NumLit}
+use Rattle.hp_lit.specs.declared.literal.Part.{Part}
+use Rattle.hp_lit.specs.declared.literal.NumLit.{NumLit}
 use Rattle.hp_path.specs.Built.{IsNumOver}
 use Rattle.hp_path.specs.Components.{AreLabels, AreNamesOf, IsCoarser, IsOneLabel, first_label, label_at, merged}
 

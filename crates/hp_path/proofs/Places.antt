@@ -12,9 +12,9 @@ use Rattle.hp_math.proofs.Rational.{ratio-kept}
 use Rattle.hp_math.proofs.Field.{≤ℚ_refl}
 use Rattle.hp_tree.specs.declared.problem.Sort.{Sort}
 use Rattle.hp_tree.specs.declared.problem.Sort.TheVariants.{Num, Idx, Ptr}
-use Rattle.hp_base.specs.declared.valuation.NameValue.{NameValue}
-use Rattle.hp_base.specs.Sorts.{IsOfSort, AreOfSorts}
-use Rattle.hp_base.specs.Truth.{Values, name_value}
+use Rattle.hp_lit.specs.declared.valuation.NameValue.{NameValue}
+use Rattle.hp_lit.specs.Sorts.{IsOfSort, AreOfSorts}
+use Rattle.hp_lit.specs.Truth.{Values, name_value}
 use Rattle.hp_diff.specs.Rows.{IsSmallWhole}
 use Rattle.hp_descent.specs.Values.{value_in}
 use Rattle.hp_path.specs.Decided.{AreSmallIdx}

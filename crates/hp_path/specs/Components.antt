@@ -1,10 +1,10 @@
 -- Literals over fractions that share no name, directly or through others: labels tell them apart.
 use Rattle.std.specs.Prelude.{◌≡◌, ℕ, ◌+◌, ◌<◌, List, [], ◌∷◌, Bool, true, false, Some, length, nat_eq, if◌then◌else◌, slice_get, slice_index_or, take}
 use Rattle.std.specs.List.{All, Contains, filter}
-use Rattle.hp_base.specs.declared.literal.Part.{Part}
-use Rattle.hp_base.specs.declared.literal.NumLit.{NumLit}
-use Rattle.hp_base.specs.declared.valuation.NameValue.{NameValue}
-use Rattle.hp_base.specs.Truth.{Values, NumIsTrue}
+use Rattle.hp_lit.specs.declared.literal.Part.{Part}
+use Rattle.hp_lit.specs.declared.literal.NumLit.{NumLit}
+use Rattle.hp_lit.specs.declared.valuation.NameValue.{NameValue}
+use Rattle.hp_lit.specs.Truth.{Values, NumIsTrue}
 use Rattle.hp_tree.specs.declared.problem.Sort.{Sort}
 use Rattle.hp_tree.specs.declared.problem.Sort.TheVariants as sort
 use Rattle.hp_descent.specs.declared.answer.RowStrain.{RowStrain}

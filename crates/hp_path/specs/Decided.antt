@@ -3,10 +3,10 @@ use Rattle.std.specs.Prelude.{◌≡◌, ℕ, List, Some, slice_get, Result, Ok,
 use Rattle.std.specs.List.{All}
 use Rattle.hp_tree.specs.declared.problem.Sort.{Sort}
 use Rattle.hp_tree.specs.declared.problem.Sort.TheVariants as sort
-use Rattle.hp_base.specs.declared.literal.Lit.{Lit}
-use Rattle.hp_base.specs.declared.valuation.NameValue.{NameValue}
-use Rattle.hp_base.specs.Sorts.{AreOfSorts}
-use Rattle.hp_base.specs.Truth.{Values, name_value, IsTrueAt}
+use Rattle.hp_lit.specs.declared.literal.Lit.{Lit}
+use Rattle.hp_lit.specs.declared.valuation.NameValue.{NameValue}
+use Rattle.hp_lit.specs.Sorts.{AreOfSorts}
+use Rattle.hp_lit.specs.Truth.{Values, name_value, IsTrueAt}
 use Rattle.hp_leaf.specs.Leaf.{IsValid}
 use Rattle.hp_diff.specs.Rows.{IsSmallWhole}
 use Rattle.hp_descent.specs.declared.answer.DescentErr.{DescentErr}

@@ -1,7 +1,7 @@
 -- The literals of a path by their sorts, each with its number along the path.
 use Rattle.std.specs.Prelude.{◌≡◌, ℕ, ◌+◌, List, [], ◌∷◌}
-use Rattle.hp_base.specs.declared.literal.Lit.{Lit}
-use Rattle.hp_base.specs.declared.literal.Lit.TheVariants.{Num, Idx, Ptr}
+use Rattle.hp_lit.specs.declared.literal.Lit.{Lit}
+use Rattle.hp_lit.specs.declared.literal.Lit.TheVariants.{Num, Idx, Ptr}
 use Rattle.hp_path.specs.declared.parting.Parts.{Parts}
 use Rattle.hp_path.specs.Built.{num_lits, idx_lits}
 

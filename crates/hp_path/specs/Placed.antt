@@ -3,9 +3,9 @@ use Rattle.std.specs.Prelude.{◌≡◌, ◌≢◌, ◌⊎◌, List, [], ◌∷�
 use Rattle.std.specs.List.{All}
 use Rattle.hp_tree.specs.declared.problem.Sort.{Sort}
 use Rattle.hp_tree.specs.declared.problem.Sort.TheVariants as sort
-use Rattle.hp_base.specs.declared.literal.NumLit.{NumLit}
-use Rattle.hp_base.specs.declared.valuation.NameValue.{NameValue}
-use Rattle.hp_base.specs.Truth.{Values, name_value, NumIsTrue}
+use Rattle.hp_lit.specs.declared.literal.NumLit.{NumLit}
+use Rattle.hp_lit.specs.declared.valuation.NameValue.{NameValue}
+use Rattle.hp_lit.specs.Truth.{Values, name_value, NumIsTrue}
 use Rattle.hp_diff.specs.Rows.{IsSmallWhole}
 
 -- a whole number of a magnitude of at most 10^37 for a name of sort idx, or any number for one of sort num

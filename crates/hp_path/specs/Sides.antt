@@ -2,11 +2,11 @@
 use Rattle.std.specs.Prelude.{◌≡◌, ℕ, List, map}
 use Rattle.std.specs.List.{All, filter}
 use Rattle.hp_tree.specs.declared.problem.Sort.{Sort}
-use Rattle.hp_base.specs.declared.literal.Lit.{Lit}
-use Rattle.hp_base.specs.declared.literal.Lit.TheVariants.{Num}
-use Rattle.hp_base.specs.declared.literal.NumLit.{NumLit}
-use Rattle.hp_base.specs.Leaf.{IsValidNum}
-use Rattle.hp_base.specs.Cycle.{IsValidIdx}
+use Rattle.hp_lit.specs.declared.literal.Lit.{Lit}
+use Rattle.hp_lit.specs.declared.literal.Lit.TheVariants.{Num}
+use Rattle.hp_lit.specs.declared.literal.NumLit.{NumLit}
+use Rattle.hp_lit.specs.Leaf.{IsValidNum}
+use Rattle.hp_lit.specs.Cycle.{IsValidIdx}
 use Rattle.hp_diff.specs.declared.answer.DiffAnswer.{DiffAnswer}
 use Rattle.hp_diff.specs.declared.answer.DiffAnswer.TheVariants as diff
 use Rattle.hp_diff.specs.Rows.{IsPoint}

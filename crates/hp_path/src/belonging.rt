@@ -1,7 +1,7 @@
 //! The component of one literal among others.
 ghost use Rattle.std.specs.Prelude.{◌≡◌, ◌≤◌, IfOk, length};
 ghost use Rattle.std.specs.List.{All};
-ghost use Rattle.hp_base.specs.Names.{sorts};
+ghost use Rattle.hp_defs.specs.Names.{sorts};
 ghost use Rattle.hp_path.specs.Built.{IsBuilt, num_lits};
 ghost use Rattle.hp_path.specs.Components.{AreLabels, IsComponentOfLast};
 ghost use Rattle.hp_path.specs.Parted.{num_places};
@@ -9,7 +9,8 @@ ghost use Rattle.hp_path.specs.Parted.{num_places};
 use crate::components::component_of;
 use crate::labels::{first_label, labels_of};
 use crate::parting::parts_of;
-use hp_base::{Lit, Names, NumLit};
+use hp_defs::Names;
+use hp_lit::{Lit, NumLit};
 use hp_num::List;
 use std::alloc::{AllocError, Global};
 

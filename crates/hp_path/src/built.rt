@@ -3,12 +3,13 @@
 ghost use Rattle.std.specs.Prelude.{◌≡◌, ◌↔◌, Some, slice_get, true};
 ghost use Rattle.std.specs.List.{All};
 ghost use Rattle.hp_tree.specs.declared.problem.Sort.TheVariants.{Num};
-ghost use Rattle.hp_base.specs.Names.{sorts};
+ghost use Rattle.hp_defs.specs.Names.{sorts};
 ghost use Rattle.hp_diff.specs.Rows.{IsSmallBound};
 ghost use Rattle.hp_path.specs.Built.{IsBuilt, IsIdxSide, IsNumOver, IsRowOver};
 
 use hp_tree::Sort;
-use hp_base::{IdxLit, Lit, Name, Names, NumLit, Part};
+use hp_defs::Names;
+use hp_lit::{IdxLit, Lit, Name, NumLit, Part};
 use hp_descent::are_fit;
 use std::slice;
 

@@ -6,8 +6,8 @@
 //! it would take the product of the times of the components, and here it takes their sum.
 ghost use Rattle.std.specs.Prelude.{◌≡◌, ◌≤◌, ◌+◌, IfOk, length, map, false, replicate};
 ghost use Rattle.std.specs.List.{All, filter};
-ghost use Rattle.hp_base.specs.Names.{sorts};
-ghost use Rattle.hp_base.specs.declared.literal.Lit.TheVariants.{Num};
+ghost use Rattle.hp_defs.specs.Names.{sorts};
+ghost use Rattle.hp_lit.specs.declared.literal.Lit.TheVariants.{Num};
 ghost use Rattle.hp_descent.specs.Columns.{AreFit};
 ghost use Rattle.hp_leaf.specs.Renumbered.{Stands};
 ghost use Rattle.hp_path.specs.Built.{IsBuilt, IsNumOver, num_lits};
@@ -18,7 +18,8 @@ ghost use Rattle.hp_path.specs.Sides.{AreOfLabel, DecidesNums, DecidesPart, Tell
 use crate::labels::{first_label, labels_of};
 use crate::parting::{Parts, copy_num};
 use crate::placing::push_values;
-use hp_base::{Lit, NameValue, Names, NumLit, Share};
+use hp_defs::Names;
+use hp_lit::{Lit, NameValue, NumLit, Share};
 use hp_descent::{DescentErr, NumAnswer};
 use hp_leaf::renumber_shares;
 use hp_num::List;

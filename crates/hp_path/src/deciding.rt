@@ -1,7 +1,7 @@
 //! The decision that speaks of chains: all literals over fractions at once, by dimension descent.
 ghost use Rattle.std.specs.Prelude.{◌≤◌, length};
 ghost use Rattle.std.specs.List.{All};
-ghost use Rattle.hp_base.specs.Names.{sorts};
+ghost use Rattle.hp_defs.specs.Names.{sorts};
 ghost use Rattle.hp_diff.specs.Rows.{IsPoint};
 ghost use Rattle.hp_path.specs.Built.{IsBuilt, idx_lits};
 ghost use Rattle.hp_path.specs.Decided.{Decides};
@@ -10,7 +10,8 @@ ghost use Rattle.hp_path.specs.Parted.{AreParts};
 use crate::parting::{Parts, parts_of};
 use crate::placing::values_for;
 use crate::rows::decide_rows;
-use hp_base::{Lit, NameValue, Names, Valuation};
+use hp_defs::Names;
+use hp_lit::{Lit, NameValue, Valuation};
 use hp_descent::{ChainAnswer, DescentErr, decide_chain};
 use hp_diff::DiffAnswer;
 use hp_leaf::{LeafProof, renumber_shares};

@@ -1,11 +1,13 @@
 //! Labels of names: names that literals tie together, directly or through others, have one label.
 ghost use Rattle.std.specs.Prelude.{◌≡◌, ◌<◌, ◌≤◌, IfOk, length, map};
 ghost use Rattle.std.specs.List.{All, Contains};
-ghost use Rattle.hp_base.specs.Names.{sorts};
+ghost use Rattle.hp_defs.specs.Names.{sorts};
 ghost use Rattle.hp_path.specs.Built.{IsNumOver};
 ghost use Rattle.hp_path.specs.Components.{AreLabels, AreNamesOf, IsCoarser, IsOneLabel, first_label, merged};
 
-use hp_base::{Names, NumLit, Part};
+use hp_defs::Names;
+
+use hp_lit::{NumLit, Part};
 use hp_num::List;
 use std::alloc::{AllocError, Global};
 

@@ -2,7 +2,7 @@
 ghost use Rattle.std.specs.Prelude.{◌≡◌, ◌≤◌, IfOk, length};
 ghost use Rattle.hp_path.specs.Parted.{AreParts};
 
-use hp_base::{IdxLit, Lit, NumLit, Part};
+use hp_lit::{IdxLit, Lit, NumLit, Part};
 use hp_num::List;
 use std::alloc::{AllocError, Global};
 

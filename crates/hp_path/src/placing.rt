@@ -3,16 +3,18 @@ ghost use Rattle.std.specs.Prelude.{◌≡◌, ◌<◌, ◌++◌, ℕ, IfOk, OnO
 ghost use Rattle.std.specs.List.{All};
 ghost use Rattle.hp_math.specs.Rational.{whole};
 ghost use Rattle.hp_tree.specs.declared.problem.Sort.TheVariants.{Num};
-ghost use Rattle.hp_base.specs.Names.{sorts};
-ghost use Rattle.hp_base.specs.Truth.{name_value};
-ghost use Rattle.hp_base.specs.Sorts.{AreOfSorts};
+ghost use Rattle.hp_defs.specs.Names.{sorts};
+ghost use Rattle.hp_lit.specs.Truth.{name_value};
+ghost use Rattle.hp_lit.specs.Sorts.{AreOfSorts};
 ghost use Rattle.hp_descent.specs.Values.{value_in};
 ghost use Rattle.hp_diff.specs.Rows.{IsPoint};
 ghost use Rattle.hp_path.specs.Built.{IsBuilt, idx_lits, num_lits};
 ghost use Rattle.hp_path.specs.Decided.{AreSmallIdx, AreValuesFor};
 ghost use Rattle.hp_path.specs.Placed.{AreApart, AreSolving, IsValueOver, put_all};
 
-use hp_base::{Lit, NameValue, Names, Valuation};
+use hp_defs::Names;
+
+use hp_lit::{Lit, NameValue, Valuation};
 use hp_num::{Frac, List};
 use std::alloc::{AllocError, Global};
 

@@ -2,7 +2,7 @@
 //! components where that gives up.
 ghost use Rattle.std.specs.Prelude.{◌≤◌, IfOk, length};
 ghost use Rattle.std.specs.List.{All};
-ghost use Rattle.hp_base.specs.Names.{sorts};
+ghost use Rattle.hp_defs.specs.Names.{sorts};
 ghost use Rattle.hp_path.specs.Built.{IsBuilt};
 ghost use Rattle.hp_path.specs.Decided.{DecidesAt, DecidesPatiently, DecidesQuickly};
 
@@ -10,7 +10,8 @@ use crate::components::{Apart, Pace, decide_nums};
 use crate::parting::parts_of;
 use crate::placing::values_for;
 use crate::rows::decide_rows;
-use hp_base::{Lit, Names, Valuation};
+use hp_defs::Names;
+use hp_lit::{Lit, Valuation};
 use hp_diff::DiffAnswer;
 use hp_leaf::LeafProof;
 use hp_num::List;

@@ -1,13 +1,14 @@
 //! The literals over whole numbers of a path, decided as rows.
 ghost use Rattle.std.specs.Prelude.{◌≤◌, IfOk, length};
 ghost use Rattle.std.specs.List.{All};
-ghost use Rattle.hp_base.specs.Names.{sorts};
+ghost use Rattle.hp_defs.specs.Names.{sorts};
 ghost use Rattle.hp_path.specs.Built.{IsBuilt};
 ghost use Rattle.hp_path.specs.Parted.{AreParts};
 ghost use Rattle.hp_path.specs.Sides.{DecidesRows};
 
 use crate::parting::Parts;
-use hp_base::{Lit, Names};
+use hp_defs::Names;
+use hp_lit::Lit;
 use hp_diff::{DiffAnswer, decide};
 use hp_leaf::renumber_steps;
 use std::alloc::{AllocError, Global};

@@ -3,7 +3,7 @@ use Rattle.std.proofs.Common.{◌≡◌, ◌⊎◌, Bool, ◌&&◌, ◌||◌, tr
 use Rattle.std.specs.Prelude.{unwrap_or}
 use Rattle.std.specs.Option.{option_or}
 use Rattle.std.proofs.lemmas.Bool.{and_parts}
-use Rattle.hp_base.specs.declared.literal.Name.{Name as Base}
+use Rattle.hp_lit.specs.declared.literal.Name.{Name as Base}
 use Rattle.hp_tree.specs.declared.problem.Sort.{Sort}
 use Rattle.hp_tree.specs.declared.problem.Sort.TheVariants.{Num, Idx}
 use Rattle.hp_tree.specs.declared.problem.Atom.{Atom}

@@ -5,7 +5,7 @@ use Rattle.std.specs.Option.{option_or}
 use Rattle.std.specs.Str.{bytes_eq}
 use Rattle.std.proofs.lemmas.Bool.{and_parts}
 use Rattle.hp_math.specs.Rational.{ℚ, is_whole}
-use Rattle.hp_base.specs.declared.literal.Name.{Name as Base}
+use Rattle.hp_lit.specs.declared.literal.Name.{Name as Base}
 use Rattle.hp_tree.specs.declared.term.Term.{Term, fold-roll-Term, ind-Term, roll-Term, map-Term}
 use Rattle.hp_tree.specs.declared.term.Term.TheOpen.{Term-F}
 use Rattle.hp_tree.specs.declared.problem.Sort.{Sort}

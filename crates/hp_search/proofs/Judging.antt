@@ -6,10 +6,10 @@ use Rattle.std.proofs.lemmas.Option.{get_or_from_slice_get, slice_get-get_or}
 use Rattle.std.proofs.lemmas.List.{drop_all, drop_more, take_all}
 use Rattle.std.proofs.lemmas.List.Elements.{All-more, All-nil}
 use Rattle.hp_num.specs.declared.wide.Wide.{Wide}
-use Rattle.hp_base.specs.declared.literal.Lit.{Lit}
-use Rattle.hp_base.specs.declared.line.Line.{Line}
-use Rattle.hp_base.specs.declared.proof.Choice.{Choice}
-use Rattle.hp_base.specs.Truth.{Values, IsTrueAt, LineIsTrue}
+use Rattle.hp_lit.specs.declared.literal.Lit.{Lit}
+use Rattle.hp_lit.specs.declared.line.Line.{Line}
+use Rattle.hp_lit.specs.declared.proof.Choice.{Choice}
+use Rattle.hp_lit.specs.Truth.{Values, IsTrueAt, LineIsTrue}
 use Rattle.hp_leaf.specs.Tree.{lits_of, lits_at, nothing, IsLine}
 use Rattle.hp_leaf.proofs.Counting.{some_true}
 use Rattle.hp_search.specs.declared.truth.Candidate.{Candidate}

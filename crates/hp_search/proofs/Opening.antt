@@ -1,8 +1,8 @@
 -- What one node more makes of a reading.
 use Rattle.std.proofs.Common.{◌≡◌, ℕ, ◌≤◌, refl, sym, ◌∙◌, ap, subst, arith, List, [], ◌∷◌, ◌++◌, length, length-append, Bool, true, false, replicate, Option}
-use Rattle.hp_base.specs.declared.line.Line.{Line}
+use Rattle.hp_lit.specs.declared.line.Line.{Line}
 use Rattle.hp_tree.specs.declared.problem.Sort.{Sort}
-use Rattle.hp_base.specs.declared.valuation.Valuation.{Valuation}
+use Rattle.hp_lit.specs.declared.valuation.Valuation.{Valuation}
 use Rattle.hp_leaf.specs.declared.tree.LeafProof.{LeafProof}
 use Rattle.hp_leaf.specs.declared.tree.Node.{Node}
 use Rattle.hp_leaf.specs.declared.tree.Node.TheVariants.{Split, Leaf, Unopened}

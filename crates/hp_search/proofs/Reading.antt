@@ -9,12 +9,12 @@ use Rattle.std.proofs.lemmas.List.Elements.{All-append, All-get_or, All-head, Al
 use Rattle.hp_math.specs.Rational.{whole}
 use Rattle.hp_math.proofs.Rational.{ratio-kept}
 use Rattle.hp_tree.specs.declared.problem.Sort.{Sort}
-use Rattle.hp_base.specs.declared.literal.Name.{Name}
-use Rattle.hp_base.specs.declared.literal.Lit.{Lit}
-use Rattle.hp_base.specs.declared.literal.Lit.TheVariants.{Num, Idx, Ptr}
-use Rattle.hp_base.specs.declared.line.Line.{Line}
-use Rattle.hp_base.specs.declared.proof.Choice.{Choice}
-use Rattle.hp_base.specs.Truth.{Values, optional_value}
+use Rattle.hp_lit.specs.declared.literal.Name.{Name}
+use Rattle.hp_lit.specs.declared.literal.Lit.{Lit}
+use Rattle.hp_lit.specs.declared.literal.Lit.TheVariants.{Num, Idx, Ptr}
+use Rattle.hp_lit.specs.declared.line.Line.{Line}
+use Rattle.hp_lit.specs.declared.proof.Choice.{Choice}
+use Rattle.hp_lit.specs.Truth.{Values, optional_value}
 use Rattle.hp_diff.specs.Rows.{IsSmallWhole}
 use Rattle.hp_leaf.specs.Tree.{lits_of, lits_at, lit_at, nothing, Place, place_lits}
 use Rattle.hp_path.specs.Built.{IsBuilt, IsIdxSide}

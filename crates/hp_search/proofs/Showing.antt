@@ -8,12 +8,12 @@ use Rattle.hp_math.specs.Rational.{whole}
 use Rattle.hp_num.specs.declared.wide.Wide.{Wide}
 use Rattle.hp_tree.specs.declared.problem.Sort.{Sort}
 use Rattle.hp_tree.specs.declared.problem.Sort.TheVariants as sort
-use Rattle.hp_base.specs.declared.literal.Lit.{Lit}
-use Rattle.hp_base.specs.declared.literal.Lit.TheVariants.{Num, Idx, Ptr}
-use Rattle.hp_base.specs.declared.line.Line.{Line}
-use Rattle.hp_base.specs.declared.proof.Choice.{Choice}
-use Rattle.hp_base.specs.declared.valuation.Valuation.{Valuation}
-use Rattle.hp_base.specs.Truth.{Values, name_value, LineIsTrue}
+use Rattle.hp_lit.specs.declared.literal.Lit.{Lit}
+use Rattle.hp_lit.specs.declared.literal.Lit.TheVariants.{Num, Idx, Ptr}
+use Rattle.hp_lit.specs.declared.line.Line.{Line}
+use Rattle.hp_lit.specs.declared.proof.Choice.{Choice}
+use Rattle.hp_lit.specs.declared.valuation.Valuation.{Valuation}
+use Rattle.hp_lit.specs.Truth.{Values, name_value, LineIsTrue}
 use Rattle.hp_descent.specs.declared.answer.At.TheVariants as At
 use Rattle.hp_descent.specs.declared.answer.Form.TheVariants as Form
 use Rattle.hp_descent.specs.declared.answer.RowStrain.{RowStrain}

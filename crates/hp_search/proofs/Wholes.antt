@@ -9,8 +9,8 @@ use Rattle.std.proofs.lemmas.Int.{ints}
 use Rattle.std.proofs.lemmas.Bool.{eqb-true}
 use Rattle.hp_math.specs.Rational.{ℚ, ratio, whole, is_whole, ◌+ℚ◌, ◌-ℚ◌, ◌≤ℚ◌}
 use Rattle.hp_math.proofs.Rational.{ratio-parts, ratio-≤, ratio-≤_out, ratio-inj, ratio-+, ratio-neg}
-use Rattle.hp_base.specs.declared.literal.IdxLit.{IdxLit}
-use Rattle.hp_base.specs.Truth.{Values, name_value, optional_value, IdxIsTrue}
+use Rattle.hp_lit.specs.declared.literal.IdxLit.{IdxLit}
+use Rattle.hp_lit.specs.Truth.{Values, name_value, optional_value, IdxIsTrue}
 
 pub whole_of : (q : ℚ) → is_whole q ≡ true → q ≡ whole q.num
 unfolding whole

@@ -4,12 +4,12 @@ use Rattle.std.specs.List.{All}
 use Rattle.hp_math.specs.Rational.{whole}
 use Rattle.hp_num.specs.declared.wide.Wide.{Wide}
 use Rattle.hp_tree.specs.declared.problem.Sort.{Sort}
-use Rattle.hp_base.specs.declared.literal.IdxLit.{IdxLit}
-use Rattle.hp_base.specs.declared.literal.Lit.{Lit}
-use Rattle.hp_base.specs.declared.literal.Lit.TheVariants.{Num, Idx, Ptr}
-use Rattle.hp_base.specs.declared.line.Line.{Line}
-use Rattle.hp_base.specs.declared.proof.Choice.{Choice}
-use Rattle.hp_base.specs.Truth.{Values, name_value, optional_value, IsTrueAt, LineIsTrue}
+use Rattle.hp_lit.specs.declared.literal.IdxLit.{IdxLit}
+use Rattle.hp_lit.specs.declared.literal.Lit.{Lit}
+use Rattle.hp_lit.specs.declared.literal.Lit.TheVariants.{Num, Idx, Ptr}
+use Rattle.hp_lit.specs.declared.line.Line.{Line}
+use Rattle.hp_lit.specs.declared.proof.Choice.{Choice}
+use Rattle.hp_lit.specs.Truth.{Values, name_value, optional_value, IsTrueAt, LineIsTrue}
 use Rattle.hp_diff.specs.Rows.{IsSmallWhole}
 use Rattle.hp_descent.specs.Columns.{IsFit}
 use Rattle.hp_descent.specs.Values.{sum_at}

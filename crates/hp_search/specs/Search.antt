@@ -2,19 +2,19 @@
 use Rattle.std.specs.Prelude.{◌≡◌, ℕ, suc, ◌+◌, ◌-◌, ◌<◌, ◌≤◌, ◌⊎◌, List, [], ◌∷◌, ◌++◌, length, Bool, true, false, Option, Some, None}
 use Rattle.std.specs.List.{All}
 use Rattle.hp_num.specs.declared.wide.Wide.{Wide}
-use Rattle.hp_base.specs.declared.line.Line.{Line}
-use Rattle.hp_base.specs.declared.literal.Lit.{Lit}
-use Rattle.hp_base.specs.declared.proof.Choice.{Choice}
+use Rattle.hp_lit.specs.declared.line.Line.{Line}
+use Rattle.hp_lit.specs.declared.literal.Lit.{Lit}
+use Rattle.hp_lit.specs.declared.proof.Choice.{Choice}
 use Rattle.hp_tree.specs.declared.problem.Sort.{Sort}
-use Rattle.hp_base.specs.declared.valuation.Valuation.{Valuation}
-use Rattle.hp_base.specs.Sorts.{AreOfSorts}
-use Rattle.hp_base.specs.Truth.{IsTrueAt, LineIsTrue}
+use Rattle.hp_lit.specs.declared.valuation.Valuation.{Valuation}
+use Rattle.hp_lit.specs.Sorts.{AreOfSorts}
+use Rattle.hp_lit.specs.Truth.{IsTrueAt, LineIsTrue}
 use Rattle.hp_leaf.specs.declared.tree.Node.{Node}
 use Rattle.hp_leaf.specs.Leaf.{IsValid}
 use Rattle.hp_leaf.specs.Path.{InRange, IsHonestPath}
 use Rattle.hp_leaf.specs.Tree.{lits_at, lit_at, IsLine, Place, place_lits, children, IsOpenAt, Reads, IsClosed, IsSpent}
-use Rattle.hp_base.specs.declared.literal.NumLit.{NumLit}
-use Rattle.hp_base.specs.declared.literal.Lit.TheVariants.{Num}
+use Rattle.hp_lit.specs.declared.literal.NumLit.{NumLit}
+use Rattle.hp_lit.specs.declared.literal.Lit.TheVariants.{Num}
 use Rattle.hp_descent.specs.declared.answer.At.TheVariants as At
 use Rattle.hp_descent.specs.declared.answer.Form.TheVariants as Form
 use Rattle.hp_descent.specs.declared.answer.Place.TheVariants.{Path}

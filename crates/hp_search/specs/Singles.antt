@@ -1,10 +1,10 @@
 -- Lines of one literal.
 use Rattle.std.specs.Prelude.{◌≡◌, ℕ, suc, ◌-◌, ◌≤◌, List, [], ◌∷◌, length, map, Option, Some, None, slice_get}
 use Rattle.std.specs.List.{All}
-use Rattle.hp_base.specs.declared.line.Line.{Line}
-use Rattle.hp_base.specs.declared.proof.Choice.{Choice}
-use Rattle.hp_base.specs.declared.proof.Share.{Share}
-use Rattle.hp_base.specs.declared.proof.Step.{Step}
+use Rattle.hp_lit.specs.declared.line.Line.{Line}
+use Rattle.hp_lit.specs.declared.proof.Choice.{Choice}
+use Rattle.hp_lit.specs.declared.proof.Share.{Share}
+use Rattle.hp_lit.specs.declared.proof.Step.{Step}
 use Rattle.hp_leaf.specs.declared.tree.LeafProof.{LeafProof}
 use Rattle.hp_leaf.specs.declared.tree.LeafProof.TheVariants.{Num, Idx, Ptr}
 use Rattle.hp_leaf.specs.declared.tree.Node.{Node}

@@ -1,7 +1,7 @@
 //! The literals of a path, decided together with those of lines of one literal.
 ghost use Rattle.std.specs.Prelude.{◌≡◌, ◌≤◌, IfOk, length, true};
 ghost use Rattle.std.specs.List.{All};
-ghost use Rattle.hp_base.specs.Names.{sorts};
+ghost use Rattle.hp_defs.specs.Names.{sorts};
 ghost use Rattle.hp_leaf.specs.Tree.{place_lits};
 ghost use Rattle.hp_search.specs.Lines.{AreBuilt};
 ghost use Rattle.hp_search.specs.Search.{FindsAhead};
@@ -10,7 +10,8 @@ ghost use Rattle.hp_search.specs.Singles.{AreSinglesOf, IsLeafWithin};
 use crate::literals::{lits_of, push_lits};
 use crate::parts::unnamed;
 use crate::singles::suspects;
-use hp_base::{Choice, Ground, Share, Step, Valuation};
+use hp_defs::Ground;
+use hp_lit::{Choice, Share, Step, Valuation};
 use hp_leaf::LeafProof;
 use hp_num::List;
 use hp_path::{Quick, decide_patiently, decide_quickly};

@@ -2,7 +2,9 @@
 ghost use Rattle.std.specs.Prelude.{◌≡◌, ◌++◌, ◌∷◌, [], IfOk, OnOk};
 ghost use Rattle.hp_leaf.specs.Tree.{lit_at, place_lits};
 
-use hp_base::{Choice, Ground, IdxLit, Lit, NumLit};
+use hp_defs::Ground;
+
+use hp_lit::{Choice, IdxLit, Lit, NumLit};
 use hp_num::List;
 use std::alloc::{AllocError, Global};
 

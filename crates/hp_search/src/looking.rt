@@ -7,7 +7,7 @@
 //! the strain is one over the choices of the path that belong to it.
 ghost use Rattle.std.specs.Prelude.{◌≡◌, ◌≤◌, [], IfOk, IfErr, IfSome, length};
 ghost use Rattle.std.specs.List.{All};
-ghost use Rattle.hp_base.specs.Names.{sorts};
+ghost use Rattle.hp_defs.specs.Names.{sorts};
 ghost use Rattle.hp_path.specs.Decided.{AreOfChain, AreValuesFor};
 ghost use Rattle.hp_search.specs.Lines.{AreBuilt};
 ghost use Rattle.hp_search.specs.Search.{IsCauseAt, IsCauseWithin, IsModelAt, IsPartOf, IsStrainedAt, Looks, Sees, SeesChain, sum_strain};
@@ -18,7 +18,8 @@ use crate::literals::{lits_of, push_lits};
 use crate::parts::part_at;
 use crate::searching::SearchErr;
 use crate::truth::{Verdict, first_false, wide_at};
-use hp_base::{Choice, Ground, Valuation};
+use hp_defs::Ground;
+use hp_lit::{Choice, Valuation};
 use hp_descent::{At, DescentErr, Form, Place, RowStrain, Strain};
 use hp_leaf::LeafProof;
 use hp_num::{List, Wide};

@@ -2,7 +2,7 @@
 ghost use Rattle.std.specs.Prelude.{◌≡◌, ◌≤◌, IfOk, length};
 ghost use Rattle.hp_search.specs.Search.{IsPartOf};
 
-use hp_base::Choice;
+use hp_lit::Choice;
 use hp_num::List;
 use std::alloc::{AllocError, Global};
 

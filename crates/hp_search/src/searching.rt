@@ -2,7 +2,7 @@
 //! leaf. One node is made a turn, so the number of turns is the number of nodes.
 ghost use Rattle.std.specs.Prelude.{◌≤◌, IfOk, IfErr, length};
 ghost use Rattle.std.specs.List.{All};
-ghost use Rattle.hp_base.specs.Names.{sorts};
+ghost use Rattle.hp_defs.specs.Names.{sorts};
 ghost use Rattle.hp_leaf.specs.Tree.{limit};
 ghost use Rattle.hp_search.specs.Lines.{AreBuilt};
 ghost use Rattle.hp_search.specs.Search.{IsAt, IsCause, IsFound, IsNotSpent, Turned};
@@ -11,7 +11,8 @@ ghost use Rattle.hp_search.specs.Singles.{AreSinglesOf};
 use crate::looking::{Seen, guess_model, look};
 use crate::places::{enter, go_on, leave};
 use crate::singles::{close_singles, singles_of};
-use hp_base::{Choice, Ground, Valuation};
+use hp_defs::Ground;
+use hp_lit::{Choice, Valuation};
 use hp_descent::Strain;
 use hp_leaf::Node;
 use hp_num::List;

@@ -1,14 +1,15 @@
 //! Lines of one literal. Each of them has to be true, so their literals are decided together.
 ghost use Rattle.std.specs.Prelude.{◌≡◌, ◌≤◌, ◌<◌, ◌∷◌, [], ◌++◌, IfOk, IfSome, length, map};
 ghost use Rattle.std.specs.List.{All};
-ghost use Rattle.hp_base.specs.Names.{sorts};
+ghost use Rattle.hp_defs.specs.Names.{sorts};
 ghost use Rattle.hp_leaf.specs.Leaf.{IsValid};
 ghost use Rattle.hp_leaf.specs.Tree.{IsClosed, place_lits};
 ghost use Rattle.hp_search.specs.Lines.{AreBuilt};
 ghost use Rattle.hp_search.specs.Singles.{AreSinglesOf, line_at, lines_of_shares, lines_of_steps, shares_in_order, splits_of, steps_in_order};
 
 use crate::literals::lits_of;
-use hp_base::{Choice, Ground, Share, Step};
+use hp_defs::Ground;
+use hp_lit::{Choice, Share, Step};
 use hp_leaf::{LeafProof, Node};
 use hp_num::List;
 use hp_path::{Quick, decide_quickly};

@@ -2,11 +2,13 @@
 ghost use Rattle.std.specs.Prelude.{◌≡◌, ◌+◌, ◌≤◌, IfOk, IfSome, IsSome, Ok, length, true, false};
 ghost use Rattle.std.specs.List.{All};
 ghost use Rattle.hp_math.specs.Rational.{whole};
-ghost use Rattle.hp_base.specs.Truth.{IdxIsTrue, LineIsTrue, optional_value};
+ghost use Rattle.hp_lit.specs.Truth.{IdxIsTrue, LineIsTrue, optional_value};
 ghost use Rattle.hp_diff.specs.Rows.{IsSmallWhole};
 ghost use Rattle.hp_search.specs.Lines.{AreReadable, HasSmallSides, IsFalseLine, IsReadable, IsSmallIndex, IsWideChoice, Judges, JudgesLine, JudgesLit, Keeps};
 
-use hp_base::{Choice, Ground, IdxLit, Line, Lit, Name, Valuation};
+use hp_defs::Ground;
+
+use hp_lit::{Choice, IdxLit, Line, Lit, Name, Valuation};
 use hp_descent::holds;
 use hp_num::Wide;
 use std::alloc::AllocError;

@@ -4,7 +4,7 @@
 //! No clause says what is computed here: an answer is checked before it is given.
 use crate::halt::Halt;
 use crate::values::{Value, order};
-use hp_base::{NumLit, Rel};
+use hp_lit::{NumLit, Rel};
 use hp_num::Frac;
 use std::alloc::Global;
 use std::cmp::Ordering;

@@ -1,12 +1,12 @@
 //! The checks of an answer, on which the promise of this crate rests.
 ghost use Rattle.std.specs.Prelude.{◌≡◌, List, IfOk, IfSome, map, true};
 ghost use Rattle.hp_math.specs.Rational.{whole, ◌*ℚ◌, ◌+ℚ◌};
-ghost use Rattle.hp_base.specs.declared.literal.Lit.TheVariants.{Num};
-ghost use Rattle.hp_base.specs.Truth.{Compares};
+ghost use Rattle.hp_lit.specs.declared.literal.Lit.TheVariants.{Num};
+ghost use Rattle.hp_lit.specs.Truth.{Compares};
 ghost use Rattle.hp_descent.specs.Columns.{columns};
 ghost use Rattle.hp_simplex.specs.Checks.{AddTo, Gives, IsRight, MeetAll, Meets};
 
-use hp_base::{Lit, Name, NameValue, NumLit, Part, Rel, Share};
+use hp_lit::{Lit, Name, NameValue, NumLit, Part, Rel, Share};
 use hp_farkas::check_num;
 use hp_num::{Frac, List, Whole};
 use std::alloc::{AllocError, Global};

@@ -6,7 +6,7 @@
 use crate::bounds::{Bounds, Way};
 use crate::halt::Halt;
 use crate::tableau::{Entry, Row, put_entry};
-use hp_base::Share;
+use hp_lit::Share;
 use hp_num::{Frac, List, Whole};
 use std::alloc::Global;
 

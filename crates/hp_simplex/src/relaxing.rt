@@ -4,7 +4,7 @@
 //! ends where there is room around some values that break none. It goes over no vertices, whose numbers may be long: the
 //! values are whole multiples of one fraction. No clause says what is computed here: an answer is checked before it is given.
 use crate::halt::Halt;
-use hp_base::{NumLit, Part, Rel};
+use hp_lit::{NumLit, Part, Rel};
 use hp_num::Frac;
 use std::alloc::Global;
 

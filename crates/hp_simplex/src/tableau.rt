@@ -3,7 +3,7 @@
 //! No clause says what is computed here: an answer is checked before it is given.
 use crate::halt::Halt;
 use crate::values::Value;
-use hp_base::{NumLit, Part};
+use hp_lit::{NumLit, Part};
 use hp_num::Frac;
 use std::alloc::Global;
 

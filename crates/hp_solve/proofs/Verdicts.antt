@@ -1,9 +1,9 @@
 -- What a search found, as a verdict on the problem.
 use Rattle.std.proofs.Common.{◌≡◌, List, subst, sym, refl}
 use Rattle.hp_tree.specs.declared.problem.Problem.{Problem}
-use Rattle.hp_base.specs.declared.names.Ground.{Ground}
-use Rattle.hp_base.specs.declared.valuation.Valuation.{Valuation}
-use Rattle.hp_base.specs.Names.{sorts}
+use Rattle.hp_defs.specs.declared.names.Ground.{Ground}
+use Rattle.hp_lit.specs.declared.valuation.Valuation.{Valuation}
+use Rattle.hp_defs.specs.Names.{sorts}
 use Rattle.hp_leaf.specs.declared.tree.Node.{Node}
 use Rattle.hp_leaf.specs.Tree.{IsClosed, Place}
 use Rattle.hp_leaf.proofs.Closing as closing

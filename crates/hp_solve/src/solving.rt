@@ -1,7 +1,7 @@
 //! From a problem to its ground lines, from these to what a search finds, and from that to the evidence.
 
 ghost use Rattle.std.specs.Prelude.{◌≡◌, ◌<◌, ◌≤◌, ◌^◌, IfOk, false, ℕ, length, map};
-ghost use Rattle.hp_base.specs.Names.{constant_name, sorts};
+ghost use Rattle.hp_defs.specs.Names.{constant_name, sorts};
 ghost use Rattle.hp_search.specs.Search.{IsCause, IsFound};
 ghost use Rattle.hp_ground.specs.Laws.{structure_of};
 ghost use Rattle.hp_ground.specs.Lines.{IsGroundOf};
@@ -9,7 +9,8 @@ ghost use Rattle.hp_norm.specs.Literals.{IsLight};
 ghost use Rattle.hp_solve.specs.Solved.{IsInScope, SolvedAs};
 
 use hp_tree::{Limit, Problem};
-use hp_base::{Constant, Ground, GroundErr, Valuation};
+use hp_defs::{Constant, Ground};
+use hp_lit::{GroundErr, Valuation};
 use hp_cert::{Refutation, entries};
 use hp_descent::Strain;
 use hp_ground::ground;

@@ -3,7 +3,7 @@ ghost use Rattle.std.specs.Prelude.{◌≡◌, true};
 ghost use Rattle.std.specs.List.{All};
 ghost use Rattle.hp_diff.specs.Rows.{IsSmallBound};
 
-use hp_base::{IdxLit, Name, NameValue};
+use hp_lit::{IdxLit, Name, NameValue};
 use hp_diff::{DiffAnswer, decide};
 use hp_num::List;
 use std::alloc::{AllocError, Global};

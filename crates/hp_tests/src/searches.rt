@@ -1,13 +1,12 @@
 //! What paths and lines of literals are answered with ample memory, where the answers are known by hand.
 ghost use Rattle.std.specs.Prelude.{◌≡◌, true};
 ghost use Rattle.std.specs.List.{All};
-ghost use Rattle.hp_base.specs.Names.{sorts};
+ghost use Rattle.hp_defs.specs.Names.{sorts};
 ghost use Rattle.hp_search.specs.Lines.{AreBuilt};
 
 use hp_tree::Sort;
-use hp_base::{
-    Choice, Ground, IdxLit, Line, Lit, Name, Names, NumLit, Origin, Part, Rel, Valuation,
-};
+use hp_defs::{Ground, Names};
+use hp_lit::{Choice, IdxLit, Line, Lit, Name, NumLit, Origin, Part, Rel, Valuation};
 use hp_descent::{At, DescentErr, Form, Place, Strain};
 use hp_leaf::LeafProof;
 use hp_num::{List, Text};

@@ -1,7 +1,7 @@
 use Rattle.std.proofs.Common.{◌+◌, sym, ap, ◌∙◌, subst, length, map}
 use Rattle.std.specs.List.{All}
-use Rattle.hp_base.specs.declared.literal.Lit.TheVariants.{Num}
-use Rattle.hp_base.specs.Leaf.{IsValidNum}
+use Rattle.hp_lit.specs.declared.literal.Lit.TheVariants.{Num}
+use Rattle.hp_lit.specs.Leaf.{IsValidNum}
 use Rattle.hp_rows.specs.Rows.{AreWide}
 use Rattle.hp_descent.specs.Columns.{columns}
 use Rattle.hp_descent.specs.LiteralRows.{rows_of}

@@ -1,5 +1,5 @@
 use Rattle.std.proofs.Common.{ℕ, ◌<◌, get_or}
-use Rattle.hp_base.specs.declared.literal.NumLit.{NumLit}
+use Rattle.hp_lit.specs.declared.literal.NumLit.{NumLit}
 use Rattle.hp_descent.specs.Columns.{IsFit}
 use Rattle.hp_descent.proofs.fit.are_fit.Given as goal
 

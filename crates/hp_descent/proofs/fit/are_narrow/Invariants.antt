@@ -1,5 +1,5 @@
 use Rattle.std.proofs.Common.{ℕ, ◌<◌, ◌^◌, get_or, unsigned_abs}
-use Rattle.hp_base.specs.declared.literal.Part.{Part}
+use Rattle.hp_lit.specs.declared.literal.Part.{Part}
 use Rattle.hp_descent.proofs.fit.are_narrow.Given as goal
 
 abbrev pub invariant-loop-part : goal.invariant-loop-part

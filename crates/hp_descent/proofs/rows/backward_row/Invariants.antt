@@ -1,5 +1,5 @@
 use Rattle.std.proofs.Common.{◌≡◌, ◌++◌, drop, map, neg_ℤ}
-use Rattle.hp_base.specs.Leaf.{coefficient}
+use Rattle.hp_lit.specs.Leaf.{coefficient}
 use Rattle.hp_descent.proofs.rows.backward_row.Given as goal
 
 abbrev pub invariant-loop-name : goal.invariant-loop-name

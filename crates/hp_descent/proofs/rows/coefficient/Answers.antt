@@ -1,7 +1,7 @@
 use Rattle.std.proofs.Common.{◌<◌, ◌^◌, sym, ◌∙◌, rules, FitsSigned, get_or, pos, unsigned_abs}
 use Rattle.std.specs.Int.{w128}
 use Rattle.std.proofs.lemmas.Int.{to_z-of_z}
-use Rattle.hp_base.specs.declared.literal.Part.{Part}
+use Rattle.hp_lit.specs.declared.literal.Part.{Part}
 use Rattle.hp_descent.proofs.Rising.{coef_at}
 use Rattle.hp_descent.proofs.rows.coefficient.Goals as goal
 

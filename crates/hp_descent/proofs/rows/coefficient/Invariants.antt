@@ -1,5 +1,5 @@
 use Rattle.std.proofs.Common.{◌≡◌, drop}
-use Rattle.hp_base.specs.Leaf.{coefficient}
+use Rattle.hp_lit.specs.Leaf.{coefficient}
 use Rattle.hp_descent.proofs.rows.coefficient.Given as goal
 
 abbrev pub invariant-loop-part : goal.invariant-loop-part

@@ -1,5 +1,5 @@
 use Rattle.std.proofs.Common.{◌≡◌, ◌++◌, drop, map}
-use Rattle.hp_base.specs.Leaf.{coefficient}
+use Rattle.hp_lit.specs.Leaf.{coefficient}
 use Rattle.hp_descent.proofs.rows.forward_row.Given as goal
 
 abbrev pub invariant-loop-name : goal.invariant-loop-name

@@ -1,6 +1,6 @@
 use Rattle.std.proofs.Common.{◌≡◌, drop, pos}
 use Rattle.hp_math.specs.Rational.{whole}
-use Rattle.hp_base.specs.Truth.{name_value}
+use Rattle.hp_lit.specs.Truth.{name_value}
 use Rattle.hp_descent.specs.Values.{sum_at}
 use Rattle.hp_descent.proofs.sums.sum_over.Given as goal
 

@@ -1,5 +1,5 @@
 use Rattle.std.proofs.Common.{◌≡◌, List, drop}
-use Rattle.hp_base.specs.Leaf.{Taken, AreTaken}
+use Rattle.hp_lit.specs.Leaf.{Taken, AreTaken}
 use Rattle.hp_farkas.specs.Check.{has_strict}
 use Rattle.hp_farkas.proofs.check.has_strict.Given as goal
 

@@ -1,5 +1,5 @@
 use Rattle.std.proofs.Common.{◌≡◌, ℕ, ◌-◌, ◌^◌, ◌≤◌, List}
-use Rattle.hp_base.specs.Leaf.{Taken, AreTaken}
+use Rattle.hp_lit.specs.Leaf.{Taken, AreTaken}
 use Rattle.hp_farkas.specs.Names.{names_of}
 use Rattle.hp_farkas.specs.Check.{vanish}
 use Rattle.hp_farkas.proofs.Names.{AreNamesFrom}

@@ -1,5 +1,5 @@
 use Rattle.std.proofs.Common.{arith, pos}
-use Rattle.hp_base.specs.declared.proof.Share.{Share}
+use Rattle.hp_lit.specs.declared.proof.Share.{Share}
 use Rattle.hp_farkas.proofs.Rising.{from_zero, to_zero, loop_in, loop_out}
 use Rattle.hp_farkas.proofs.form.is_combination.Goals as goal
 use Rattle.hp_farkas.proofs.form.is_combination.Goals.{then-share-last-via-then-share-last, then-share-last-via-else-share-last+then-not-may_take}

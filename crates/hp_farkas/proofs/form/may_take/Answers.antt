@@ -1,7 +1,7 @@
 use Rattle.std.proofs.Common.{◌≡◌, ◌<◌, ◌^◌, ◌<ℤ◌, unsigned_abs, pos, inl, inr, arith, refl, sym, ◌∙◌, to_z, of_z}
 use denote.Enum.Bare.{same_true}
-use Rattle.hp_base.specs.contracts.literal.Rel.{the_type}
-use Rattle.hp_base.specs.declared.literal.Rel.TheVariants.{Eq}
+use Rattle.hp_lit.specs.contracts.literal.Rel.{the_type}
+use Rattle.hp_lit.specs.declared.literal.Rel.TheVariants.{Eq}
 use Rattle.std.specs.Int.{w128}
 use Rattle.std.proofs.lemmas.Int.{ints}
 use Rattle.hp_farkas.proofs.form.may_take.Goals as goal

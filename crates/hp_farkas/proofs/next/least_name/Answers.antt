@@ -1,5 +1,5 @@
 use Rattle.std.proofs.Common.{◌∙◌, pos, sym, ap}
-use Rattle.hp_base.specs.declared.proof.Share.{Share}
+use Rattle.hp_lit.specs.declared.proof.Share.{Share}
 use Rattle.hp_farkas.specs.Next.{least_part, least_name}
 use Rattle.hp_farkas.proofs.Loops.{least_none, least_some}
 use Rattle.hp_farkas.proofs.next.least_name.Goals as goal

@@ -1,5 +1,5 @@
 use Rattle.std.proofs.Common.{◌≡◌, List, None, drop}
-use Rattle.hp_base.specs.Leaf.{Taken, AreTaken}
+use Rattle.hp_lit.specs.Leaf.{Taken, AreTaken}
 use Rattle.hp_farkas.specs.Next.{least_name}
 use Rattle.hp_farkas.proofs.next.least_name.Given as goal
 

@@ -2,7 +2,7 @@ use Rattle.std.proofs.Common.{◌≡◌, ◌+◌, ◌∙◌, pos, sym, ap, arith
 use Rattle.std.specs.Int.{w128}
 use Rattle.std.proofs.lemmas.Int.{ints}
 use Rattle.std.proofs.lemmas.Result.{err_from_is_err_and}
-use Rattle.hp_base.specs.declared.literal.Part.{Part}
+use Rattle.hp_lit.specs.declared.literal.Part.{Part}
 use Rattle.hp_farkas.specs.Sums.{add_product, add_parts}
 use Rattle.hp_farkas.proofs.Loops.{part_err, part_ok, part_other}
 use Rattle.hp_farkas.proofs.sums.add_parts.Goals as goal

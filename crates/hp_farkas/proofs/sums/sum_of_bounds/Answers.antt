@@ -4,7 +4,7 @@ use Rattle.std.proofs.lemmas.Int.{ints}
 use Rattle.std.proofs.lemmas.Result.{err_from_is_err_and}
 use Rattle.hp_num.specs.declared.wide.Wide.{Wide}
 use Rattle.std.specs.Prelude.{Result}
-use Rattle.hp_base.specs.Leaf.{Taken}
+use Rattle.hp_lit.specs.Leaf.{Taken}
 use Rattle.hp_farkas.specs.Sums.{add_product, bound_from}
 use Rattle.hp_farkas.proofs.Loops.{sum_err, sum_ok}
 use Rattle.hp_farkas.proofs.sums.sum_of_bounds.Goals as goal

@@ -1,5 +1,5 @@
 use Rattle.std.proofs.Common.{◌≡◌, List, pos, drop}
-use Rattle.hp_base.specs.Leaf.{Taken, AreTaken}
+use Rattle.hp_lit.specs.Leaf.{Taken, AreTaken}
 use Rattle.hp_farkas.specs.Sums.{bound_from}
 use Rattle.hp_farkas.proofs.sums.sum_of_bounds.Given as goal
 

@@ -1,6 +1,6 @@
 use Rattle.std.proofs.Common.{◌∙◌, ◌++◌, ◌∷◌, [], List, length, map, take, sym, ap, arith}
 use Rattle.hp_tree.specs.declared.problem.Decl.{Decl}
-use Rattle.hp_base.specs.declared.names.Constant.{Constant}
+use Rattle.hp_defs.specs.declared.names.Constant.{Constant}
 use Rattle.hp_model.specs.WellFormed.{constants}
 use Rattle.hp_ground.specs.Lines.{as_constant}
 use Rattle.hp_ground.proofs.Declared.{constants_more, few_constants}

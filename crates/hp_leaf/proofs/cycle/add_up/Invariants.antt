@@ -1,6 +1,6 @@
 use Rattle.std.proofs.Common.{◌≡◌, List, pos, drop}
-use Rattle.hp_base.specs.declared.literal.IdxLit.{IdxLit}
-use Rattle.hp_base.specs.Cycle.{AreRowsOf}
+use Rattle.hp_lit.specs.declared.literal.IdxLit.{IdxLit}
+use Rattle.hp_lit.specs.Cycle.{AreRowsOf}
 use Rattle.hp_leaf.specs.Check.{sum_from}
 use Rattle.hp_leaf.proofs.cycle.add_up.Given as goal
 

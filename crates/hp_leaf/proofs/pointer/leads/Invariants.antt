@@ -1,5 +1,5 @@
 use Rattle.std.proofs.Common.{drop}
-use Rattle.hp_leaf.specs.Pointers.{JoinsAll}
+use Rattle.hp_lit.specs.Pointers.{JoinsAll}
 use Rattle.hp_leaf.proofs.pointer.leads.Given as goal
 
 abbrev pub invariant-loop-link : goal.invariant-loop-link

@@ -1,5 +1,5 @@
-use Rattle.hp_base.specs.declared.literal.Rel.TheVariants.{Lt}
-use Rattle.hp_base.specs.declared.literal.Lit.TheVariants.{Idx}
+use Rattle.hp_lit.specs.declared.literal.Rel.TheVariants.{Lt}
+use Rattle.hp_lit.specs.declared.literal.Lit.TheVariants.{Idx}
 use Rattle.hp_norm.specs.Literals.{compared}
 use Rattle.hp_norm.proofs.Steps.{two_pushed}
 use Rattle.hp_norm.proofs.atoms.push_apart.Goals as goal

@@ -1,6 +1,6 @@
 use Rattle.std.proofs.Common.{ℕ, ◌<◌, get_or}
-use Rattle.hp_base.specs.Names.{sorts}
-use Rattle.hp_base.specs.declared.literal.Lit.{Lit}
+use Rattle.hp_defs.specs.Names.{sorts}
+use Rattle.hp_lit.specs.declared.literal.Lit.{Lit}
 use Rattle.hp_path.specs.Built.{IsBuilt}
 use Rattle.hp_path.proofs.built.are_built.Given as goal
 

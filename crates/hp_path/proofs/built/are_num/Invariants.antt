@@ -1,8 +1,8 @@
 use Rattle.std.proofs.Common.{◌≡◌, ℕ, ◌<◌, get_or, Some}
 use Rattle.std.specs.Prelude.{slice_get}
 use Rattle.hp_tree.specs.declared.problem.Sort.TheVariants.{Num}
-use Rattle.hp_base.specs.declared.literal.Part.{Part}
-use Rattle.hp_base.specs.Names.{sorts}
+use Rattle.hp_lit.specs.declared.literal.Part.{Part}
+use Rattle.hp_defs.specs.Names.{sorts}
 use Rattle.hp_path.proofs.built.are_num.Given as goal
 
 abbrev pub invariant-loop-part : goal.invariant-loop-part

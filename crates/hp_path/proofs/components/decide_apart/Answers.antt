@@ -1,8 +1,8 @@
 use Rattle.std.proofs.Common.{◌≡◌, ◌≤◌, ◌<◌, ◌+◌, ◌++◌, ◌∷◌, [], List, ℕ, sym, ◌∙◌, ap, subst, arith, length, length-append, get_or, true, false, set, replicate}
 use Rattle.std.proofs.lemmas.List.{nil_from_length}
-use Rattle.hp_base.specs.Names.{sorts}
-use Rattle.hp_base.specs.declared.literal.NumLit.{NumLit}
-use Rattle.hp_base.specs.declared.valuation.NameValue.{NameValue}
+use Rattle.hp_defs.specs.Names.{sorts}
+use Rattle.hp_lit.specs.declared.literal.NumLit.{NumLit}
+use Rattle.hp_lit.specs.declared.valuation.NameValue.{NameValue}
 use Rattle.std.specs.List.{All, filter}
 use Rattle.hp_path.specs.Components.{AreGivenUp, AreSettled, AreSolved, IsGivenUp, first_label, has_label, is_done, label_at, places_with}
 use Rattle.hp_path.specs.Placed.{AreSolving}

@@ -1,4 +1,4 @@
-use Rattle.hp_base.specs.Names.{sorts}
+use Rattle.hp_defs.specs.Names.{sorts}
 use Rattle.hp_path.specs.Components.{AreSettled}
 use Rattle.hp_path.proofs.components.decide_apart.Given as goal
 

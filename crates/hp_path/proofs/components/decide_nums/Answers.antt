@@ -1,7 +1,7 @@
 use Rattle.std.proofs.Common.{sym, ◌∙◌, ap, subst, map, arith, length}
 use Rattle.std.specs.List.{All}
-use Rattle.hp_base.specs.Names.{sorts}
-use Rattle.hp_base.specs.declared.literal.Lit.TheVariants.{Num}
+use Rattle.hp_defs.specs.Names.{sorts}
+use Rattle.hp_lit.specs.declared.literal.Lit.TheVariants.{Num}
 use Rattle.hp_leaf.specs.Renumbered.{Stands}
 use Rattle.hp_path.specs.Built.{IsNumOver, num_lits}
 use Rattle.hp_path.proofs.Mixed.{fewer_nums, nums_built}

@@ -1,7 +1,7 @@
 use Rattle.std.proofs.Common.{sym, ◌∙◌, subst, map, Ok}
-use Rattle.hp_base.specs.Names.{sorts}
-use Rattle.hp_base.specs.declared.literal.Lit.TheVariants.{Num}
-use Rattle.hp_base.specs.Leaf.{IsValidNum}
+use Rattle.hp_defs.specs.Names.{sorts}
+use Rattle.hp_lit.specs.declared.literal.Lit.TheVariants.{Num}
+use Rattle.hp_lit.specs.Leaf.{IsValidNum}
 use Rattle.hp_descent.specs.Answers.{DecidesChain, IsChainSolution}
 use Rattle.hp_descent.specs.Columns.{AreFit}
 use Rattle.hp_leaf.specs.Renumbered.{renumbered_shares}

@@ -1,6 +1,6 @@
 use Rattle.std.proofs.Common.{◌≡◌, ◌<◌, length, take}
 use Rattle.std.specs.List.{All}
-use Rattle.hp_base.specs.Names.{sorts}
+use Rattle.hp_defs.specs.Names.{sorts}
 use Rattle.hp_path.specs.Components.{IsOneLabel}
 use Rattle.hp_path.proofs.labels.labels_of.Given as goal
 

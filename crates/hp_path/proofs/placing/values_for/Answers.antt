@@ -1,6 +1,6 @@
 use Rattle.std.proofs.Common.{sym, ◌∙◌, ap, subst}
 use Rattle.std.specs.List.{All}
-use Rattle.hp_base.specs.Names.{sorts}
+use Rattle.hp_defs.specs.Names.{sorts}
 use Rattle.hp_descent.specs.Values.{value_in}
 use Rattle.hp_path.specs.Built.{idx_lits, num_lits}
 use Rattle.hp_path.specs.Placed.{AreApart, IsValueOver}

@@ -1,8 +1,8 @@
 use Rattle.std.proofs.Common.{sym, ◌∙◌, ap, subst, arith, length, map}
 use Rattle.std.specs.List.{All}
-use Rattle.hp_base.specs.Names.{sorts}
-use Rattle.hp_base.specs.declared.literal.Lit.TheVariants.{Idx}
-use Rattle.hp_base.specs.Cycle.{IsValidIdx}
+use Rattle.hp_defs.specs.Names.{sorts}
+use Rattle.hp_lit.specs.declared.literal.Lit.TheVariants.{Idx}
+use Rattle.hp_lit.specs.Cycle.{IsValidIdx}
 use Rattle.hp_diff.specs.Rows.{IsDiffAnswer, IsSmallBound}
 use Rattle.hp_leaf.specs.Renumbered.{renumbered_steps}
 use Rattle.hp_leaf.proofs.Renumbered.{idx_placed}

@@ -1,6 +1,6 @@
 use Rattle.std.proofs.Common.{◌≤◌, pos}
 use Rattle.std.proofs.lemmas.List.Elements.{All-more}
-use Rattle.hp_base.specs.declared.proof.Share.{Share}
+use Rattle.hp_lit.specs.declared.proof.Share.{Share}
 use Rattle.hp_search.proofs.ahead.are_shares_within.Goals as goal
 
 pub loop-share-preserved : goal.loop-share-preserved

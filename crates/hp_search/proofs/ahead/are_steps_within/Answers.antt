@@ -1,6 +1,6 @@
 use Rattle.std.proofs.Common.{◌≤◌, false}
 use Rattle.std.proofs.lemmas.List.Elements.{All-more}
-use Rattle.hp_base.specs.declared.proof.Step.{Step}
+use Rattle.hp_lit.specs.declared.proof.Step.{Step}
 use Rattle.hp_search.proofs.ahead.are_steps_within.Goals as goal
 
 pub loop-step-preserved : goal.loop-step-preserved

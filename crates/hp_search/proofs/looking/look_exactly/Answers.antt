@@ -1,6 +1,6 @@
 use Rattle.std.proofs.Common.{◌∙◌, subst, sym, Ok}
 use Rattle.std.specs.List.{All}
-use Rattle.hp_base.specs.Names.{sorts}
+use Rattle.hp_defs.specs.Names.{sorts}
 use Rattle.hp_path.specs.Built.{IsBuilt}
 use Rattle.hp_path.specs.Decided.{AreOfChain, Decides}
 use Rattle.hp_search.specs.Lines.{Judges}

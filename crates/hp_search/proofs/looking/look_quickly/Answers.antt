@@ -1,5 +1,5 @@
 use Rattle.std.proofs.Common.{subst}
-use Rattle.hp_base.specs.Names.{sorts}
+use Rattle.hp_defs.specs.Names.{sorts}
 use Rattle.hp_leaf.specs.Tree.{place_lits}
 use Rattle.hp_search.specs.Search.{FindsAhead}
 use Rattle.hp_search.proofs.Reading.{lines_readable}

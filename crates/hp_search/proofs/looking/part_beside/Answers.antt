@@ -1,6 +1,6 @@
 use Rattle.std.proofs.Common.{◌++◌, ◌∷◌, [], ◌∙◌, ap, subst, sym}
 use Rattle.std.specs.List.{All}
-use Rattle.hp_base.specs.Names.{sorts}
+use Rattle.hp_defs.specs.Names.{sorts}
 use Rattle.hp_leaf.specs.Tree.{place_lits}
 use Rattle.hp_path.specs.Built.{IsBuilt}
 use Rattle.hp_search.proofs.Reading.{places_built}

@@ -1,6 +1,6 @@
 use Rattle.std.proofs.Common.{◌≤◌, ◌∙◌, ap, length, subst, sym, Err, IfErr}
 use Rattle.std.proofs.lemmas.Result.{err_from_is_err_and}
-use Rattle.hp_base.specs.Names.{sorts}
+use Rattle.hp_defs.specs.Names.{sorts}
 use Rattle.hp_search.specs.Search.{IsCause, IsCauseWithin, Sees}
 use Rattle.hp_search.proofs.Opening as opening
 use Rattle.hp_search.proofs.searching.open_place.Goals as goal

@@ -1,6 +1,6 @@
 use Rattle.std.proofs.Common.{◌≡◌, length, arith}
 use Rattle.hp_search.proofs.Opening as opening
-use Rattle.hp_base.specs.Names.{sorts}
+use Rattle.hp_defs.specs.Names.{sorts}
 use Rattle.hp_search.proofs.searching.search_places.Goals as goal
 
 pub returns-clause-enough : goal.returns-clause-enough

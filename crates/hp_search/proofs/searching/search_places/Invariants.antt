@@ -1,6 +1,6 @@
 use Rattle.std.proofs.Common.{◌≡◌, length}
 use Rattle.hp_search.specs.Search.{IsAt}
-use Rattle.hp_base.specs.Names.{sorts}
+use Rattle.hp_defs.specs.Names.{sorts}
 use Rattle.hp_search.proofs.searching.search_places.Given as goal
 
 abbrev pub invariant-loop-done : goal.invariant-loop-done

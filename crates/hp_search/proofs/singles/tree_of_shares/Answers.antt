@@ -1,7 +1,7 @@
 use Rattle.std.proofs.Common.{◌≡◌, ◌+◌, ap, arith, get_or, pos, sym, to_z, of_z}
 use Rattle.std.specs.Int.{w128}
 use Rattle.std.proofs.lemmas.Int.{ints}
-use Rattle.hp_base.specs.declared.proof.Share.{Share}
+use Rattle.hp_lit.specs.declared.proof.Share.{Share}
 use Rattle.hp_search.specs.Singles.{line_at}
 use Rattle.hp_search.proofs.Closing.{more_splits, more_shares}
 use Rattle.hp_search.proofs.singles.tree_of_shares.Goals as goal

@@ -2,7 +2,7 @@ use Rattle.std.proofs.Common.{◌≡◌, ap, subst, ◌∙◌, arith, to_z, of_z
 use Rattle.std.specs.Int.{w128}
 use Rattle.std.proofs.lemmas.Int.{ints}
 use Rattle.hp_math.specs.Rational.{whole}
-use Rattle.hp_base.specs.Truth.{optional_value}
+use Rattle.hp_lit.specs.Truth.{optional_value}
 use Rattle.hp_diff.specs.Rows.{IsSmallWhole}
 use Rattle.hp_search.proofs.Wholes.{index_given, index_small}
 use Rattle.hp_search.proofs.truth.index_value.Goals as goal

@@ -1,5 +1,5 @@
 use Rattle.std.proofs.Common.{◌≡◌, map, take}
-use Rattle.hp_base.specs.declared.literal.Lit.TheVariants.{Num}
+use Rattle.hp_lit.specs.declared.literal.Lit.TheVariants.{Num}
 use Rattle.hp_simplex.proofs.checks.copies.Given as goal
 
 abbrev pub invariant-loop-at : goal.invariant-loop-at

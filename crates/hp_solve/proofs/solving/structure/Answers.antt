@@ -1,6 +1,6 @@
 use Rattle.std.proofs.Common.{◌∙◌, ◌++◌, ◌∷◌, [], List, take, map, ap, sym, arith}
 use Rattle.std.proofs.lemmas.Option.{get_or_from_slice_get}
-use Rattle.hp_base.specs.Names.{constant_name}
+use Rattle.hp_defs.specs.Names.{constant_name}
 use Rattle.hp_model.specs.declared.structure.ConstValue.{ConstValue}
 use Rattle.hp_ground.specs.Laws.{const_values}
 use Rattle.hp_solve.proofs.Structures.{one_more}

@@ -1,5 +1,5 @@
 use Rattle.std.proofs.Common.{◌≡◌, take, map}
-use Rattle.hp_base.specs.Names.{constant_name}
+use Rattle.hp_defs.specs.Names.{constant_name}
 use Rattle.hp_ground.specs.Laws.{const_values}
 use Rattle.hp_solve.proofs.solving.structure.Given as goal
 

@@ -1,5 +1,5 @@
 use Rattle.std.proofs.Common.{subst}
-use Rattle.hp_base.specs.Names.{sorts}
+use Rattle.hp_defs.specs.Names.{sorts}
 use Rattle.hp_search.specs.Search.{IsCause}
 use Rattle.hp_solve.proofs.solving.unfinished.Goals as goal
 

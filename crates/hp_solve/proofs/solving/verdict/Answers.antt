@@ -1,5 +1,5 @@
 use Rattle.std.proofs.Common.{◌∙◌, ℕ, false, List, length, map, ap, sym, subst}
-use Rattle.hp_base.specs.Names.{constant_name, sorts}
+use Rattle.hp_defs.specs.Names.{constant_name, sorts}
 use Rattle.hp_leaf.specs.Tree.{IsSpent}
 use Rattle.hp_cert.specs.Entries.{AreSplitLines}
 use Rattle.hp_search.specs.Search.{IsFound}

@@ -2,8 +2,8 @@ use Rattle.std.proofs.Common.{◌≤◌, arith, length, subst}
 use Rattle.std.specs.List.{All}
 use Rattle.std.proofs.lemmas.List.{take_all}
 use Rattle.std.proofs.lemmas.List.Elements.{All-more}
-use Rattle.hp_base.specs.Names.{sorts}
-use Rattle.hp_base.specs.declared.line.Line.{Line}
+use Rattle.hp_defs.specs.Names.{sorts}
+use Rattle.hp_lit.specs.declared.line.Line.{Line}
 use Rattle.hp_search.specs.Lines.{AreBuilt}
 use Rattle.hp_tests.proofs.searches.are_lines.Goals as goal
 

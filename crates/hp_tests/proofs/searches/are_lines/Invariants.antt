@@ -1,7 +1,7 @@
 use Rattle.std.proofs.Common.{take}
 use Rattle.std.specs.List.{All}
-use Rattle.hp_base.specs.Names.{sorts}
-use Rattle.hp_base.specs.declared.line.Line.{Line}
+use Rattle.hp_defs.specs.Names.{sorts}
+use Rattle.hp_lit.specs.declared.line.Line.{Line}
 use Rattle.hp_search.specs.Lines.{AreBuilt}
 use Rattle.hp_tests.proofs.searches.are_lines.Given as goal
 

@@ -1,6 +1,6 @@
 -- Lists that grow at their end.
 use Rattle.std.proofs.Common.{◌≡◌, List, [], ◌++◌, sym, ap, ◌∙◌, append_assoc, append-nil}
-use Rattle.hp_base.specs.Growing.{Begins}
+use Rattle.hp_lit.specs.Growing.{Begins}
 
 pub begins_same : {A : Type 0} (old new : List A) → new ≡ old → Begins old new
 begins_same old new e = record { more = []; all = e ∙ sym (append-nil old) }

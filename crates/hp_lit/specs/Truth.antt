@@ -1,15 +1,15 @@
 -- Truth of literals and lines at a valuation.
 use Rattle.std.specs.Prelude.{◌≡◌, ℕ, List, [], ◌∷◌, ◌⊎◌, pos, Option, Some, None, slice_index_or, true, false, ◌↔◌}
 use Rattle.hp_math.specs.Rational.{ℚ, whole, ◌+ℚ◌, ◌-ℚ◌, ◌*ℚ◌, ◌≤ℚ◌, ◌<ℚ◌}
-use Rattle.hp_base.specs.declared.literal.Name.{Name}
-use Rattle.hp_base.specs.declared.literal.Rel.{Rel}
-use Rattle.hp_base.specs.declared.literal.Rel.TheVariants.{Le, Lt, Eq}
-use Rattle.hp_base.specs.declared.literal.Part.{Part}
-use Rattle.hp_base.specs.declared.literal.NumLit.{NumLit}
-use Rattle.hp_base.specs.declared.literal.IdxLit.{IdxLit}
-use Rattle.hp_base.specs.declared.literal.PtrLit.{PtrLit}
-use Rattle.hp_base.specs.declared.literal.Lit.{Lit}
-use Rattle.hp_base.specs.declared.literal.Lit.TheVariants.{Num, Idx, Ptr}
+use Rattle.hp_lit.specs.declared.literal.Name.{Name}
+use Rattle.hp_lit.specs.declared.literal.Rel.{Rel}
+use Rattle.hp_lit.specs.declared.literal.Rel.TheVariants.{Le, Lt, Eq}
+use Rattle.hp_lit.specs.declared.literal.Part.{Part}
+use Rattle.hp_lit.specs.declared.literal.NumLit.{NumLit}
+use Rattle.hp_lit.specs.declared.literal.IdxLit.{IdxLit}
+use Rattle.hp_lit.specs.declared.literal.PtrLit.{PtrLit}
+use Rattle.hp_lit.specs.declared.literal.Lit.{Lit}
+use Rattle.hp_lit.specs.declared.literal.Lit.TheVariants.{Num, Idx, Ptr}
 
 -- the values of the names, in their order; a name past the end has 0
 abbrev pub Values : Type 0

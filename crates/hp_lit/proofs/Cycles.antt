@@ -6,14 +6,14 @@ use Rattle.hp_math.specs.Rational.{ℚ, whole, ◌-ℚ◌, ◌≤ℚ◌}
 use Rattle.hp_math.proofs.Whole.{+ℤ-*ℤ}
 use Rattle.hp_math.proofs.Rational.{ratio-≤_out}
 use Rattle.hp_math.proofs.Field.{by_common2, by_common3, at_one, fractions, whole_at, +ℚ-neg_ℚ, ≤ℚ_refl}
-use Rattle.hp_base.specs.declared.literal.Name.{Name}
-use Rattle.hp_base.specs.declared.literal.IdxLit.{IdxLit}
-use Rattle.hp_base.specs.declared.literal.Lit.{Lit}
-use Rattle.hp_base.specs.declared.literal.Lit.TheVariants.{Idx as IdxLiteral}
-use Rattle.hp_base.specs.declared.proof.Step.{Step}
-use Rattle.hp_base.specs.Truth.{Values, IsTrueAt, IdxIsTrue, optional_value}
-use Rattle.hp_base.specs.Cycle.{turned, AreRowsOf, Leads, bound_sum, NoIdxLeaf}
-use Rattle.hp_base.proofs.Paths.{lit_true}
+use Rattle.hp_lit.specs.declared.literal.Name.{Name}
+use Rattle.hp_lit.specs.declared.literal.IdxLit.{IdxLit}
+use Rattle.hp_lit.specs.declared.literal.Lit.{Lit}
+use Rattle.hp_lit.specs.declared.literal.Lit.TheVariants.{Idx as IdxLiteral}
+use Rattle.hp_lit.specs.declared.proof.Step.{Step}
+use Rattle.hp_lit.specs.Truth.{Values, IsTrueAt, IdxIsTrue, optional_value}
+use Rattle.hp_lit.specs.Cycle.{turned, AreRowsOf, Leads, bound_sum, NoIdxLeaf}
+use Rattle.hp_lit.proofs.Paths.{lit_true}
 
 -- ---- differences
 telescope : (m n : ℤ) (x y z : ℚ) → (x -ℚ y) ≤ℚ whole m → (y -ℚ z) ≤ℚ whole n → (x -ℚ z) ≤ℚ whole (m +ℤ n)

@@ -1,20 +1,17 @@
-//! Names, literals, lines and valuations: the ground side of a problem, and when a literal is true; and the parts of
-//! the evidence against literals.
+//! Literals, lines and valuations, when a literal is true, and the parts of the evidence against literals.
 #![tactic(auto)]
 
-ghost use Rattle.hp_base.specs.Cycle.{NoIdxLeaf};
-ghost use Rattle.hp_base.specs.Leaf.{NoNumLeaf};
+ghost use Rattle.hp_lit.specs.Cycle.{NoIdxLeaf};
+ghost use Rattle.hp_lit.specs.Leaf.{NoNumLeaf};
 
 mod line;
 mod literal;
-mod names;
 mod proof;
 mod refusal;
 mod valuation;
 
 pub use line::{Arg, Body, Def, Lin, LinPart, Line, Origin};
 pub use literal::{IdxLit, Lit, Name, NumLit, Part, PtrLit, Rel};
-pub use names::{Constant, Ground, Names, Signature};
 pub use proof::{Choice, Share, Step};
 pub use refusal::{GroundErr, Refusal};
 pub use valuation::{NameValue, Valuation};

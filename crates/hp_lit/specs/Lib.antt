@@ -1,8 +1,8 @@
 pub mod Truth
 pub mod Cycle
 pub mod Leaf
-pub mod Names
 pub mod Sorts
 pub mod Words
 pub mod Growing
 pub mod Limited
+pub mod Pointers

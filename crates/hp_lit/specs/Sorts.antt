@@ -3,7 +3,7 @@ use Rattle.std.specs.Prelude.{◌≡◌, List, [], ◌∷◌, pos, true}
 use Rattle.hp_math.specs.Rational.{ℚ, is_whole, whole, ◌≤ℚ◌}
 use Rattle.hp_tree.specs.declared.problem.Sort.{Sort}
 use Rattle.hp_tree.specs.declared.problem.Sort.TheVariants.{Num, Idx, Ptr}
-use Rattle.hp_base.specs.Truth.{Values}
+use Rattle.hp_lit.specs.Truth.{Values}
 
 -- any fraction, a whole number, a whole number from 0
 abbrev pub IsOfSort : Sort → ℚ → Type 0

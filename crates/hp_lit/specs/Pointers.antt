@@ -1,10 +1,10 @@
 -- Equalities that lead from one side of an inequality to the other: the evidence against literals over pointers.
 use Rattle.std.specs.Prelude.{◌≡◌, ℕ, ◌⊎◌, List, [], ◌∷◌, Option, true, false}
-use Rattle.hp_base.specs.declared.literal.Name.{Name}
-use Rattle.hp_base.specs.declared.literal.PtrLit.{PtrLit}
-use Rattle.hp_base.specs.declared.literal.Lit.{Lit}
-use Rattle.hp_base.specs.declared.literal.Lit.TheVariants.{Ptr}
-use Rattle.hp_base.specs.Cycle.{IsLit}
+use Rattle.hp_lit.specs.declared.literal.Name.{Name}
+use Rattle.hp_lit.specs.declared.literal.PtrLit.{PtrLit}
+use Rattle.hp_lit.specs.declared.literal.Lit.{Lit}
+use Rattle.hp_lit.specs.declared.literal.Lit.TheVariants.{Ptr}
+use Rattle.hp_lit.specs.Cycle.{IsLit}
 
 -- the equality with this number has a and b as its sides, in either order
 pub record Joins (path : List Lit) (n : ℕ) (a b : Option Name) : Type 0 where

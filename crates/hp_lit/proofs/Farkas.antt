@@ -5,16 +5,16 @@ use Rattle.hp_math.specs.Rational.{ℚ, whole, ◌+ℚ◌, ◌*ℚ◌}
 use Rattle.hp_math.specs.Combination.{Relation, AtMost, Below, Equals, Parts, Row, Multiple, RowIsTrue, AreTrue}
 use Rattle.hp_math.specs.Combination as rows
 use Rattle.hp_math.proofs.Combination.{no_combination}
-use Rattle.hp_base.specs.declared.literal.Rel.{Rel}
-use Rattle.hp_base.specs.declared.literal.Rel.TheVariants.{Le, Lt, Eq}
-use Rattle.hp_base.specs.declared.literal.Part.{Part}
-use Rattle.hp_base.specs.declared.literal.NumLit.{NumLit}
-use Rattle.hp_base.specs.declared.literal.Lit.{Lit}
-use Rattle.hp_base.specs.declared.literal.Lit.TheVariants.{Num}
-use Rattle.hp_base.specs.declared.proof.Share.{Share}
-use Rattle.hp_base.specs.Truth.{Values, name_value, parts_value, Compares, NumIsTrue, IsTrueAt}
-use Rattle.hp_base.specs.Leaf.{coefficient, Taken, AreTaken, sum_coefficient, sum_bound, HasStrict, NoNumLeaf}
-use Rattle.hp_base.proofs.Paths.{lit_true}
+use Rattle.hp_lit.specs.declared.literal.Rel.{Rel}
+use Rattle.hp_lit.specs.declared.literal.Rel.TheVariants.{Le, Lt, Eq}
+use Rattle.hp_lit.specs.declared.literal.Part.{Part}
+use Rattle.hp_lit.specs.declared.literal.NumLit.{NumLit}
+use Rattle.hp_lit.specs.declared.literal.Lit.{Lit}
+use Rattle.hp_lit.specs.declared.literal.Lit.TheVariants.{Num}
+use Rattle.hp_lit.specs.declared.proof.Share.{Share}
+use Rattle.hp_lit.specs.Truth.{Values, name_value, parts_value, Compares, NumIsTrue, IsTrueAt}
+use Rattle.hp_lit.specs.Leaf.{coefficient, Taken, AreTaken, sum_coefficient, sum_bound, HasStrict, NoNumLeaf}
+use Rattle.hp_lit.proofs.Paths.{lit_true}
 
 -- ---- a literal as a row
 abbrev relation_of : Rel → Relation

@@ -2,11 +2,11 @@
 use Rattle.std.specs.Prelude.{ℕ, List, [], ◌∷◌, ◌++◌, map, Option, Some, None, slice_get}
 use Rattle.hp_tree.specs.declared.problem.Sort.{Sort}
 use Rattle.hp_tree.specs.declared.problem.Sort.TheVariants.{Num}
-use Rattle.hp_base.specs.declared.line.Body.{Body}
-use Rattle.hp_base.specs.declared.line.Body.TheVariants.{Apply, Sum}
-use Rattle.hp_base.specs.declared.line.Def.{Def}
-use Rattle.hp_base.specs.declared.names.Constant.{Constant}
-use Rattle.hp_base.specs.declared.names.Signature.{Signature}
+use Rattle.hp_lit.specs.declared.line.Body.{Body}
+use Rattle.hp_lit.specs.declared.line.Body.TheVariants.{Apply, Sum}
+use Rattle.hp_lit.specs.declared.line.Def.{Def}
+use Rattle.hp_defs.specs.declared.names.Constant.{Constant}
+use Rattle.hp_defs.specs.declared.names.Signature.{Signature}
 
 -- constants and signatures in the order of declarations, definitions in the order of their making
 pub record NameList : Type 0 where

@@ -6,9 +6,9 @@ use Rattle.std.proofs.lemmas.List.Quantifiers.{position-Some}
 use Rattle.std.proofs.lemmas.Option.{slice_get-get_or}
 use Rattle.std.proofs.lemmas.Slice.Eq.{bytes_eq-Decides}
 use Rattle.hp_math.specs.Rational.{ℚ}
-use Rattle.hp_base.specs.declared.literal.Name.{Name}
-use Rattle.hp_base.specs.Truth.{Values, name_value}
-use Rattle.hp_base.specs.Words.{Word, Agrees, number}
+use Rattle.hp_lit.specs.declared.literal.Name.{Name}
+use Rattle.hp_lit.specs.Truth.{Values, name_value}
+use Rattle.hp_lit.specs.Words.{Word, Agrees, number}
 
 -- a word stands where its name says
 pub record StandsAt (words : List Word) (word : Word) (name : Name) : Type 0 where

@@ -1,14 +1,14 @@
 -- A combination of literals over fractions that adds to nothing below 0: the evidence against them.
 use Rattle.std.specs.Prelude.{◌≡◌, ℕ, ◌<◌, ◌^◌, List, [], ◌∷◌, ◌⊎◌, ℤ, pos, ◌+ℤ◌, ◌*ℤ◌, ◌<ℤ◌, unsigned_abs, nat_eq, if◌then◌else◌}
 use Rattle.std.specs.List.{All}
-use Rattle.hp_base.specs.declared.literal.Rel.TheVariants.{Lt, Eq}
-use Rattle.hp_base.specs.declared.literal.Part.{Part}
-use Rattle.hp_base.specs.declared.literal.NumLit.{NumLit}
-use Rattle.hp_base.specs.declared.literal.Lit.{Lit}
-use Rattle.hp_base.specs.declared.literal.Lit.TheVariants.{Num}
-use Rattle.hp_base.specs.declared.proof.Share.{Share}
-use Rattle.hp_base.specs.Truth.{Values, IsTrueAt}
-use Rattle.hp_base.specs.Cycle.{IsLit}
+use Rattle.hp_lit.specs.declared.literal.Rel.TheVariants.{Lt, Eq}
+use Rattle.hp_lit.specs.declared.literal.Part.{Part}
+use Rattle.hp_lit.specs.declared.literal.NumLit.{NumLit}
+use Rattle.hp_lit.specs.declared.literal.Lit.{Lit}
+use Rattle.hp_lit.specs.declared.literal.Lit.TheVariants.{Num}
+use Rattle.hp_lit.specs.declared.proof.Share.{Share}
+use Rattle.hp_lit.specs.Truth.{Values, IsTrueAt}
+use Rattle.hp_lit.specs.Cycle.{IsLit}
 
 -- the coefficient of a name
 abbrev pub coefficient : ℕ → List Part → ℤ

@@ -3,10 +3,9 @@
 //! The sort of a name isn't stored beside it: a constant has the sort of its declaration, an application the result
 //! of its function's signature, and a sum is of sort num.
 ghost use Rattle.std.specs.Prelude.{◌≡◌, ◌-◌, ◌<◌, ◌≤◌, [], ◌∷◌, ◌++◌, length, map, slice_get, Some, OnOk, OnErr, MatchOption};
-ghost use Rattle.hp_base.specs.Names.{constant_name, sort_of_body, sorts, with_constant, with_signature};
+ghost use Rattle.hp_defs.specs.Names.{constant_name, sort_of_body, sorts, with_constant, with_signature};
 
-use crate::line::{Body, Def, Line};
-use crate::literal::Name;
+use hp_lit::{Body, Def, Line, Name};
 use hp_tree::Sort;
 use hp_num::{List, Text};
 use std::alloc::{AllocError, Global};
@@ -42,7 +41,7 @@ pub struct Names {
 
 impl Model for Names {
     ghost use Rattle.std.specs.Prelude.{◌≤◌, ◌+◌, length};
-    ghost use Rattle.hp_base.specs.Names.{NameList};
+    ghost use Rattle.hp_defs.specs.Names.{NameList};
 
     ghost Value = { NameList };
 
