@@ -19,7 +19,7 @@ use Rattle.hp_lit.specs.Words.{Agrees}
 use Rattle.hp_tree.specs.declared.sides.Side.{Side}
 use Rattle.hp_tree.specs.declared.sides.Side.TheVariants.{Guard, Head}
 use Rattle.hp_tree.specs.Sides.{asked}
-use Rattle.hp_tree.specs.Value.{Names, Functions, atom_is_true, all_true, one_true}
+use Rattle.hp_tree.specs.Value.{Environment, Functions, atom_is_true, all_true, one_true}
 use Rattle.hp_norm.specs.Forms.{form_of, is_index_term}
 use Rattle.hp_norm.specs.Literals.{atom_literals, is_index_atom}
 use Rattle.hp_norm.specs.Laws.{IsWholeTerm}
@@ -104,7 +104,7 @@ whole_side : (consts : Consts) (v : Values) → AreOfSorts consts.sorts v → (b
 whole_side consts v sorted None h = whole-whole (pos 0)
 whole_side consts v sorted (Some name) h = whole_value consts.sorts v name.0 sorted h
 
-module _ (consts : Consts) (v : Values) (env : Names) (f : Functions) (agrees : Agrees consts.names v env) (sorted : AreOfSorts consts.sorts v) where
+module _ (consts : Consts) (v : Values) (env : Environment) (f : Functions) (agrees : Agrees consts.names v env) (sorted : AreOfSorts consts.sorts v) where
   abbrev truth : Atom → Bool
   truth atom = atom_is_true env f atom
 

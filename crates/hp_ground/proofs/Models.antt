@@ -20,11 +20,11 @@ use Rattle.hp_defs.specs.declared.names.Signature.{Signature}
 use Rattle.hp_defs.specs.Names.{constant_sort, sort_of_definition, sorts}
 use Rattle.hp_lit.specs.Sorts.{AreOfSorts, IsOfSort}
 use Rattle.hp_lit.specs.Truth.{Values, LineIsTrue}
-use Rattle.hp_lit.specs.Words.{Word, Agrees}
+use Rattle.hp_tree.specs.Value.{Word, all_true, one_true}
+use Rattle.hp_lit.specs.Words.{Agrees}
 use Rattle.hp_model.specs.declared.structure.ConstValue.{ConstValue}
 use Rattle.hp_model.specs.declared.structure.Structure.{Structure}
 use Rattle.hp_model.specs.Value.{constant, entry_name, entry_value, functions_of}
-use Rattle.hp_tree.specs.Value.{all_true, one_true}
 use Rattle.hp_model.specs.WellFormed.{Declared, constants, ConstantsFit}
 use Rattle.hp_tree.specs.Sorted.{is_of_sort}
 use Rattle.hp_model.specs.Satisfies.{Holds}

@@ -20,7 +20,8 @@ use Rattle.hp_lit.specs.declared.literal.Rel.{Rel}
 use Rattle.hp_lit.specs.declared.literal.Rel.TheVariants as rel
 use Rattle.hp_lit.specs.declared.literal.Lit.{Lit}
 use Rattle.hp_lit.specs.declared.literal.Lit.TheVariants.{Num, Idx, Ptr}
-use Rattle.hp_lit.specs.Words.{Word, number}
+use Rattle.hp_tree.specs.Value.{Word}
+use Rattle.hp_lit.specs.Words.{number}
 use Rattle.hp_tree.specs.declared.sides.Side.{Side}
 use Rattle.hp_tree.specs.Sides.{taken}
 use Rattle.hp_linear.specs.declared.form.Form.{Form}

@@ -21,7 +21,7 @@ use Rattle.hp_lit.specs.declared.literal.Rel.TheVariants as rel
 use Rattle.hp_lit.specs.declared.literal.Lit.{Lit}
 use Rattle.hp_lit.specs.declared.refusal.Refusal.{Refusal}
 use Rattle.hp_lit.specs.declared.refusal.Refusal.TheVariants.{Wide, Memory}
-use Rattle.hp_lit.specs.Words.{Word}
+use Rattle.hp_tree.specs.Value.{Word}
 use Rattle.hp_tree.specs.declared.sides.Side.{Side}
 use Rattle.hp_tree.specs.Sides.{taken}
 use Rattle.hp_linear.specs.declared.form.Summand.{Summand}

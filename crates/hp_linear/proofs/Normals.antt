@@ -10,7 +10,8 @@ use Rattle.hp_num.proofs.Given.{came}
 use Rattle.hp_tree.specs.declared.term.Term.{Term, fold-roll-Term, ind-Term, roll-Term, map-Term}
 use Rattle.hp_tree.specs.declared.term.Term.TheOpen.{Term-F}
 use Rattle.hp_lit.specs.declared.literal.Name.{Name}
-use Rattle.hp_lit.specs.Words.{Word, number}
+use Rattle.hp_tree.specs.Value.{Word}
+use Rattle.hp_lit.specs.Words.{number}
 use Rattle.hp_lit.proofs.Words.{numbered}
 use Rattle.hp_tree.proofs.Compares.{eq_ℚ-from}
 use Rattle.hp_linear.specs.declared.form.Summand.{Summand}

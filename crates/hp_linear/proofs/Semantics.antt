@@ -10,9 +10,9 @@ use Rattle.hp_tree.specs.declared.term.Term.{Term, fold-roll-Term, ind-Term, rol
 use Rattle.hp_tree.specs.declared.term.Term.TheOpen.{Term-F}
 use Rattle.hp_lit.specs.declared.literal.Name.{Name}
 use Rattle.hp_lit.specs.Truth.{Values, name_value}
-use Rattle.hp_lit.specs.Words.{Word, Agrees, number}
+use Rattle.hp_tree.specs.Value.{Word, Environment, Functions, value, value_step}
+use Rattle.hp_lit.specs.Words.{Agrees, number}
 use Rattle.hp_lit.proofs.Words.{word_value}
-use Rattle.hp_tree.specs.Value.{Names, Functions, value, value_step}
 use Rattle.hp_linear.specs.declared.form.Form.{Form}
 use Rattle.hp_linear.specs.Steps.{Refusable}
 use Rattle.hp_linear.specs.Forms.{copies, form_step, form_with, is_linear, lin_of, linear_step, minus_form, named_form, neg_form, number_form, plus_form, times_form}
@@ -22,7 +22,7 @@ use Rattle.hp_linear.proofs.Refusals.{ok_same}
 use Rattle.hp_linear.proofs.Fields.{one_times, zero_plus}
 use Rattle.hp_linear.proofs.Values.{minus_form-value, neg_form-value, plus_form-value, times_form-value}
 
-module _ (words : List Word) (v : Values) (env : Names) (functions : Functions) (agrees : Agrees words v env) where
+module _ (words : List Word) (v : Values) (env : Environment) (functions : Functions) (agrees : Agrees words v env) where
   -- a form that was found has this value
   abbrev HasValue : Refusable Form → ℚ → Type 0
   HasValue r x = (f : Form) → r ≡ Ok f → x ≡ form_value v f

@@ -5,7 +5,8 @@ use Rattle.hp_num.specs.Wide.{add_of, mul_of, ◌>>=◌}
 use Rattle.hp_tree.specs.declared.term.Term.{Term, fold-Term}
 use Rattle.hp_tree.specs.declared.term.Term.TheOpen.{Term-F}
 use Rattle.hp_lit.specs.declared.literal.Name.{Name}
-use Rattle.hp_lit.specs.Words.{Word, number}
+use Rattle.hp_tree.specs.Value.{Word}
+use Rattle.hp_lit.specs.Words.{number}
 use Rattle.hp_linear.specs.declared.form.Summand.{Summand}
 use Rattle.hp_linear.specs.declared.form.Form.{Form}
 use Rattle.hp_linear.specs.Steps.{Refusable, behind, unless_wide}

@@ -8,7 +8,8 @@ use Rattle.std.proofs.lemmas.Slice.Eq.{bytes_eq-Decides}
 use Rattle.hp_math.specs.Rational.{ℚ}
 use Rattle.hp_lit.specs.declared.literal.Name.{Name}
 use Rattle.hp_lit.specs.Truth.{Values, name_value}
-use Rattle.hp_lit.specs.Words.{Word, Agrees, number}
+use Rattle.hp_tree.specs.Value.{Word}
+use Rattle.hp_lit.specs.Words.{Agrees, number}
 
 -- a word stands where its name says
 pub record StandsAt (words : List Word) (word : Word) (name : Name) : Type 0 where

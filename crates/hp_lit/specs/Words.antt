@@ -3,11 +3,8 @@ use Rattle.std.specs.Prelude.{◌≡◌, ℕ, List, Option, Some, option_map, po
 use Rattle.std.specs.Str.{bytes_eq}
 use Rattle.hp_math.specs.Rational.{ℚ}
 use Rattle.hp_lit.specs.declared.literal.Name.{Name}
+use Rattle.hp_tree.specs.Value.{Word}
 use Rattle.hp_lit.specs.Truth.{Values, name_value}
-
--- a word is the list of its bytes
-abbrev pub Word : Type 0
-Word = List ℕ
 
 -- the name that a word stands for: its first place among the words
 abbrev pub number : List Word → Word → Option Name

@@ -11,22 +11,22 @@ use Rattle.hp_model.specs.declared.structure.ConstValue.{ConstValue}
 use Rattle.hp_model.specs.declared.structure.Row.{Row}
 use Rattle.hp_model.specs.declared.structure.Table.{Table}
 use Rattle.hp_model.specs.declared.structure.Structure.{Structure}
-use Rattle.hp_tree.specs.Value.{Name, Names, Functions, value, all_true}
+use Rattle.hp_tree.specs.Value.{Word, Environment, Functions, value, all_true}
 
 -- the name and the value of a constant
-abbrev pub entry_name : ConstValue → Name
+abbrev pub entry_name : ConstValue → Word
 entry_name c = c.name
 
 abbrev pub entry_value : ConstValue → ℚ
 entry_value c = c.value
 
 -- the value of the first entry with this name, or 0
-abbrev pub constant : List ConstValue → Names
+abbrev pub constant : List ConstValue → Environment
 constant [] name = whole (pos 0)
 constant (c ∷ cs) name = if bytes_eq c.name name then c.value else constant cs name
 
 -- `$1` to `$4` are the arguments, and every other name is a constant
-abbrev pub with_arguments : List ℚ → Names → Names
+abbrev pub with_arguments : List ℚ → Environment → Environment
 with_arguments args names name =
     if bytes_eq name (codes "$1") then slice_index_or args 0 (whole (pos 0))
     else if bytes_eq name (codes "$2") then slice_index_or args 1 (whole (pos 0))
@@ -35,12 +35,12 @@ with_arguments args names name =
     else names name
 
 -- the value of the first row whose guard is true, else of the last term
-abbrev pub rows_value : Names → Functions → List Row → Term → ℚ
+abbrev pub rows_value : Environment → Functions → List Row → Term → ℚ
 rows_value names functions [] otherwise = value names functions otherwise
 rows_value names functions (row ∷ rows) otherwise =
     if all_true names functions row.guard then value names functions row.value else rows_value names functions rows otherwise
 
-abbrev pub tables_value : Names → Functions → List Table → Functions
+abbrev pub tables_value : Environment → Functions → List Table → Functions
 tables_value consts lower [] func args = whole (pos 0)
 tables_value consts lower (table ∷ tables) func args =
     if bytes_eq table.func func then rows_value (with_arguments args consts) lower table.rows table.otherwise

@@ -9,11 +9,11 @@ use Rattle.hp_tree.specs.declared.problem.Decl.TheVariants.{Const, Fun}
 use Rattle.hp_tree.specs.declared.problem.Problem.{Problem}
 use Rattle.hp_model.specs.declared.structure.ConstValue.{ConstValue}
 use Rattle.hp_model.specs.declared.structure.Structure.{Structure}
-use Rattle.hp_tree.specs.Value.{Name}
+use Rattle.hp_tree.specs.Value.{Word}
 use Rattle.hp_tree.specs.Sorted.{is_of_sort}
 
 pub record Declared : Type 0 where
-  pub name : Name
+  pub name : Word
   pub sort : Sort
 
 abbrev pub constants : List Decl → List Declared

@@ -6,9 +6,9 @@ use Rattle.hp_tree.specs.declared.term.Term.{Term, fold-roll-Term, ind-Term, rol
 use Rattle.hp_tree.specs.declared.term.Term.TheOpen.{Term-F}
 use Rattle.hp_lit.specs.declared.literal.Name.{Name}
 use Rattle.hp_lit.specs.Truth.{Values, name_value, optional_value}
-use Rattle.hp_lit.specs.Words.{Word, Agrees, number}
+use Rattle.hp_tree.specs.Value.{Word, Environment, Functions, value, value_step}
+use Rattle.hp_lit.specs.Words.{Agrees, number}
 use Rattle.hp_lit.proofs.Words.{word_value}
-use Rattle.hp_tree.specs.Value.{Names, Functions, value, value_step}
 use Rattle.hp_norm.specs.declared.collect.Shape.{Shape}
 use Rattle.hp_norm.specs.declared.collect.Shape.TheVariants.{Number, Sum, Other}
 use Rattle.hp_norm.specs.Forms.{is_index_shape, is_index_term, form_of, shape_form, shape_of, shape_step, shifted, plus_shape, minus_shape, neg_shape, number_shape, named_shape}
@@ -52,7 +52,7 @@ module _ (v : Values) where
   number_value : (q : ℚ) → HasValue (number_shape q) q
   number_value q = (elim (is_whole q) as (λ b. is_whole q ≡ b → HasValue (cond b (Number q.num) Other) q) [ true ↦ λ t. whole-of q t | false ↦ λ t. tt ]) refl
 
-module _ (words : List Word) (v : Values) (env : Names) (f : Functions) (agrees : Agrees words v env) where
+module _ (words : List Word) (v : Values) (env : Environment) (f : Functions) (agrees : Agrees words v env) where
   named_value : (n : Word) → HasValue v (named_shape (number words n)) (env n)
   named_value n = by (number words n) refl
     where

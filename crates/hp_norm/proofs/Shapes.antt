@@ -4,7 +4,8 @@ use Rattle.std.proofs.lemmas.Int.{ints}
 use Rattle.std.proofs.lemmas.Bool.{and_parts}
 use Rattle.hp_math.specs.Rational.{ℚ, is_whole}
 use Rattle.hp_lit.specs.declared.literal.Name.{Name}
-use Rattle.hp_lit.specs.Words.{Word, number}
+use Rattle.hp_tree.specs.Value.{Word}
+use Rattle.hp_lit.specs.Words.{number}
 use Rattle.hp_tree.specs.declared.term.Term.{Term, fold-roll-Term, ind-Term, roll-Term, map-Term}
 use Rattle.hp_tree.specs.declared.problem.Atom.{Atom}
 use Rattle.hp_tree.specs.declared.term.Term.TheOpen.{Term-F}

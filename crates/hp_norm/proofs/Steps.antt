@@ -4,7 +4,7 @@ use Rattle.std.proofs.lemmas.List.Elements.{All-cons, All-head, All-tail}
 use Rattle.hp_lit.specs.declared.literal.Lit.{Lit}
 use Rattle.hp_lit.specs.declared.refusal.Refusal.{Refusal}
 use Rattle.hp_lit.specs.declared.refusal.Refusal.TheVariants.{Wide, Memory}
-use Rattle.hp_lit.specs.Words.{Word}
+use Rattle.hp_tree.specs.Value.{Word}
 use Rattle.hp_lit.proofs.Growing.{begins_more, begins_then}
 use Rattle.hp_tree.specs.declared.term.Term.{Term}
 use Rattle.hp_tree.specs.declared.problem.Atom.{Atom}

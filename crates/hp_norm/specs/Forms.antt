@@ -2,7 +2,8 @@
 use Rattle.std.specs.Prelude.{ℕ, ◌+◌, ◌^◌, if◌then◌else◌, Bool, true, false, List, ℤ, pos, neg_ℤ, ◌+ℤ◌, ◌≤ℤ◌, Option, Some, None, unsigned_abs}
 use Rattle.hp_math.specs.Rational.{ℚ, is_whole}
 use Rattle.hp_lit.specs.declared.literal.Name.{Name}
-use Rattle.hp_lit.specs.Words.{Word, number}
+use Rattle.hp_tree.specs.Value.{Word}
+use Rattle.hp_lit.specs.Words.{number}
 use Rattle.hp_tree.specs.declared.term.Term.{Term, fold-Term}
 use Rattle.hp_tree.specs.declared.term.Term.TheOpen.{Term-F}
 use Rattle.hp_norm.specs.declared.collect.Form.{Form}

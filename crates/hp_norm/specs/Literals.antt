@@ -13,7 +13,7 @@ use Rattle.hp_tree.specs.declared.problem.Atom.{Atom}
 use Rattle.hp_tree.specs.declared.problem.Clause.{Clause}
 use Rattle.hp_tree.specs.declared.problem.Problem.{Problem}
 use Rattle.hp_norm.specs.declared.collect.Form.{Form}
-use Rattle.hp_lit.specs.Words.{Word}
+use Rattle.hp_tree.specs.Value.{Word}
 use Rattle.hp_tree.specs.declared.sides.Side.{Side}
 use Rattle.hp_tree.specs.Sides.{taken}
 use Rattle.hp_norm.specs.declared.collect.Shape.{Shape}

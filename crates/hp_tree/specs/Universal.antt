@@ -6,7 +6,7 @@ use Rattle.hp_tree.specs.declared.problem.Var.{Var}
 use Rattle.hp_tree.specs.declared.problem.Atom.{Atom}
 use Rattle.hp_tree.specs.declared.problem.Clause.{Clause}
 use Rattle.hp_tree.specs.Sorted.{is_of_sort}
-use Rattle.hp_tree.specs.Value.{Names, Functions, all_true, one_true}
+use Rattle.hp_tree.specs.Value.{Environment, Functions, all_true, one_true}
 
 pub record Universal : Type 0 where
   pub vars : List Var
@@ -18,13 +18,13 @@ abbrev pub universal : Clause → Universal
 universal clause = record { vars = clause.vars; guard = clause.guard; head = clause.head }
 
 -- the variables have the values of the list, in their order, and every other name keeps its value
-abbrev pub assign : List Var → List ℚ → Names → Names
+abbrev pub assign : List Var → List ℚ → Environment → Environment
 assign [] values env name = env name
 assign (v ∷ vars) [] env name = env name
 assign (v ∷ vars) (x ∷ values) env name = if bytes_eq v.name name then x else assign vars values env name
 
 -- a guard atom is false, or a head atom is true
-abbrev pub clause_at : Names → Functions → Universal → List ℚ → Bool
+abbrev pub clause_at : Environment → Functions → Universal → List ℚ → Bool
 clause_at env functions u values = not (all_true (assign u.vars values env) functions u.guard) || one_true (assign u.vars values env) functions u.head
 
 -- a value for each variable, of its sort, in a universe of so many pointers
@@ -34,5 +34,5 @@ AreSorted size (v ∷ vars) (x ∷ values) = IsTrue (is_of_sort size v.sort x) �
 AreSorted size _ _ = ⊥
 
 -- at all values of the variables' sorts
-abbrev pub HoldsAll : ℕ → Names → Functions → Universal → Type 0
+abbrev pub HoldsAll : ℕ → Environment → Functions → Universal → Type 0
 HoldsAll size env functions u = (values : List ℚ) → AreSorted size u.vars values → IsTrue (clause_at env functions u values)

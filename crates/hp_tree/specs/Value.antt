@@ -8,19 +8,19 @@ use Rattle.hp_tree.specs.declared.problem.Atom.{Atom}
 use Rattle.hp_tree.specs.declared.problem.Cmp.{Cmp}
 use Rattle.hp_tree.specs.declared.problem.Cmp.TheVariants.{Le, Lt, Eq, Ne, Ge, Gt}
 
--- a name is its bytes
-abbrev pub Name : Type 0
-Name = List ℕ
+-- a name as its bytes
+abbrev pub Word : Type 0
+Word = List ℕ
 
--- a value for each name, and for each function a value at each list of values
-abbrev pub Names : Type 0
-Names = Name → ℚ
+-- a value for each word, and for each function a value at each list of values
+abbrev pub Environment : Type 0
+Environment = Word → ℚ
 
 abbrev pub Functions : Type 0
-Functions = Name → List ℚ → ℚ
+Functions = Word → List ℚ → ℚ
 
 -- one layer of a term, its parts having the values that are given
-abbrev pub value_step : Names → Functions → Term-F ℚ → ℚ
+abbrev pub value_step : Environment → Functions → Term-F ℚ → ℚ
 value_step names functions (Term-F.Number n) = n
 value_step names functions Term-F.Null = whole (pos 0)
 value_step names functions (Term-F.Name name) = names name
@@ -30,7 +30,7 @@ value_step names functions (Term-F.Sub a b) = a -ℚ b
 value_step names functions (Term-F.Neg a) = neg_ℚ a
 value_step names functions (Term-F.Scale n a) = n *ℚ a
 
-abbrev pub value : Names → Functions → Term → ℚ
+abbrev pub value : Environment → Functions → Term → ℚ
 value names functions = fold-Term ℚ (value_step names functions)
 
 abbrev pub compares : Cmp → ℚ → ℚ → Bool
@@ -41,13 +41,13 @@ compares Ne a b = not (eq_ℚ a b)
 compares Ge a b = le_ℚ b a
 compares Gt a b = lt_ℚ b a
 
-abbrev pub atom_is_true : Names → Functions → Atom → Bool
+abbrev pub atom_is_true : Environment → Functions → Atom → Bool
 atom_is_true names functions atom = compares atom.cmp (value names functions atom.left) (value names functions atom.right)
 
-abbrev pub all_true : Names → Functions → List Atom → Bool
+abbrev pub all_true : Environment → Functions → List Atom → Bool
 all_true names functions [] = true
 all_true names functions (atom ∷ atoms) = atom_is_true names functions atom && all_true names functions atoms
 
-abbrev pub one_true : Names → Functions → List Atom → Bool
+abbrev pub one_true : Environment → Functions → List Atom → Bool
 one_true names functions [] = false
 one_true names functions (atom ∷ atoms) = atom_is_true names functions atom || one_true names functions atoms
