@@ -12,8 +12,8 @@ use Rattle.hp_grammar.specs.declared.symbol.Symbol.TheVariants.{Word as word}
 use Rattle.hp_grammar.specs.Bodies.{SpellsAtom, SpellsAtoms, one, more, SpellsGuard, none, some, SpellsHead, empty, atoms, SpellsBody, body}
 use Rattle.hp_grammar.specs.Problems.{SpellsItem, clause, query, SpellsItems, SpellsProblem, problem}
 use Rattle.hp_grammar.specs.Problems as grammar
-use Rattle.hp_norm.specs.Forms.{weight}
-use Rattle.hp_norm.specs.Literals.{IsLightAtom, IsLightClause, IsLight}
+use Rattle.hp_index.specs.Forms.{weight}
+use Rattle.hp_index.specs.Literals.{IsLightAtom, IsLightClause, IsLight}
 use Rattle.hp_bounds.proofs.Loads.{load, load-append, load-between, term_carried}
 
 atom_carried : (u : List Token) (a : Atom) → SpellsAtom u a → (weight a.left + weight a.right) ≤ load u

@@ -2,7 +2,7 @@
 use Rattle.std.specs.Prelude.{ℕ, ◌+◌, ◌≤◌, List, length}
 use Rattle.hp_tree.specs.declared.problem.Problem.{Problem}
 use Rattle.hp_grammar.specs.Spells.{Spells}
-use Rattle.hp_norm.specs.Literals.{IsLight}
+use Rattle.hp_index.specs.Literals.{IsLight}
 use Rattle.hp_bounds.specs.Depth.{IsShallow}
 
 -- no more declarations and clauses than bytes

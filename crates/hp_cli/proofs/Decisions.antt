@@ -4,7 +4,7 @@ use Rattle.std.proofs.lemmas.Bool.{ltb-false}
 use Rattle.hp_tree.specs.declared.problem.Problem.{Problem}
 use Rattle.hp_bounds.proofs.Bounds as bounds
 use Rattle.hp_ground.specs.Ground.{IsGroundProblem}
-use Rattle.hp_norm.specs.Literals.{IsLight}
+use Rattle.hp_index.specs.Literals.{IsLight}
 use Rattle.hp_cli.specs.NotBuilt.{IsBuilt, IsNotBuilt}
 use Rattle.hp_scope.proofs.Scope.{scope_by_sorts}
 use Rattle.hp_solve.specs.Solved.{IsInScope}

@@ -20,12 +20,12 @@ use Rattle.hp_tree.specs.declared.sides.Side.{Side}
 use Rattle.hp_tree.specs.declared.sides.Side.TheVariants.{Guard, Head}
 use Rattle.hp_tree.specs.Sides.{asked}
 use Rattle.hp_tree.specs.Value.{Environment, Functions, atom_is_true, all_true, one_true}
-use Rattle.hp_norm.specs.Forms.{form_of, is_index_term}
-use Rattle.hp_norm.specs.Literals.{atom_literals, is_index_atom}
-use Rattle.hp_norm.specs.Laws.{IsWholeTerm}
-use Rattle.hp_norm.proofs.Numbers.{whole-whole}
-use Rattle.hp_norm.proofs.Shapes.{index_sides}
-use Rattle.hp_norm.proofs.Truth as index
+use Rattle.hp_index.specs.Forms.{form_of, is_index_term}
+use Rattle.hp_index.specs.Literals.{atom_literals, is_index_atom}
+use Rattle.hp_index.specs.Laws.{IsWholeTerm}
+use Rattle.hp_index.proofs.Numbers.{whole-whole}
+use Rattle.hp_index.proofs.Shapes.{index_sides}
+use Rattle.hp_index.proofs.Truth as index
 use Rattle.hp_linear.specs.Steps.{Refusable, behind}
 use Rattle.hp_linear.specs.Literals.{num_literals}
 use Rattle.hp_linear.proofs.Refusals.{ok_same}

@@ -16,14 +16,14 @@ use Rattle.hp_lit.specs.declared.literal.Name.{Name}
 use Rattle.hp_lit.specs.declared.literal.Rel.{Rel}
 use Rattle.hp_lit.specs.declared.literal.Rel.TheVariants as rel
 use Rattle.hp_lit.specs.declared.literal.Lit.TheVariants.{Idx}
-use Rattle.hp_norm.specs.declared.collect.Form.{Form}
-use Rattle.hp_norm.specs.declared.collect.Shape.{Shape}
-use Rattle.hp_norm.specs.declared.collect.Shape.TheVariants.{Number, Sum, Other}
+use Rattle.hp_index.specs.declared.collect.Form.{Form}
+use Rattle.hp_index.specs.declared.collect.Shape.{Shape}
+use Rattle.hp_index.specs.declared.collect.Shape.TheVariants.{Number, Sum, Other}
 use Rattle.hp_lit.specs.Words.{number}
 use Rattle.hp_tree.specs.declared.sides.Side.{Side}
 use Rattle.hp_tree.specs.Sides.{taken}
-use Rattle.hp_norm.specs.Forms.{form_of, shape_form, shape_of, shape_step, shifted, plus_shape, minus_shape, neg_shape, number_shape, named_shape}
-use Rattle.hp_norm.specs.Literals.{atom_literals, cancel, compared, is_index_atom, literals, HasSmallBound}
+use Rattle.hp_index.specs.Forms.{form_of, shape_form, shape_of, shape_step, shifted, plus_shape, minus_shape, neg_shape, number_shape, named_shape}
+use Rattle.hp_index.specs.Literals.{atom_literals, cancel, compared, is_index_atom, literals, HasSmallBound}
 use Rattle.hp_ground.specs.declared.consts.Consts.{Consts}
 use Rattle.hp_ground.specs.Ground.{IsIdxAtom, is_of, names_have_sort, names_step, sides_have_sort, sort_of}
 use Rattle.hp_ground.specs.Lines.{IsIdxSide, IsRow}

@@ -15,8 +15,8 @@ use Rattle.hp_lit.specs.declared.refusal.Refusal.TheVariants as refused
 use Rattle.hp_lit.proofs.Growing.{begins_more, begins_same, begins_then}
 use Rattle.hp_tree.specs.declared.sides.Side.{Side}
 use Rattle.hp_tree.specs.declared.sides.Side.TheVariants.{Guard, Head}
-use Rattle.hp_norm.specs.Literals.{IsLightAtom, atom_literals}
-use Rattle.hp_norm.specs.Answers as index
+use Rattle.hp_index.specs.Literals.{IsLightAtom, atom_literals}
+use Rattle.hp_index.specs.Answers as index
 use Rattle.hp_linear.specs.Steps.{Refusable, behind}
 use Rattle.hp_linear.specs.Literals.{num_literals}
 use Rattle.hp_linear.specs.Normal.{IsNormal}

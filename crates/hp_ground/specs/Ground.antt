@@ -13,7 +13,7 @@ use Rattle.hp_tree.specs.declared.problem.Decl.TheVariants.{Const, Fun}
 use Rattle.hp_tree.specs.declared.problem.Problem.{Problem}
 use Rattle.hp_model.specs.WellFormed.{Declared, constants}
 use Rattle.hp_names.specs.Names.{AreDistinct}
-use Rattle.hp_norm.specs.Literals.{is_index_atom}
+use Rattle.hp_index.specs.Literals.{is_index_atom}
 use Rattle.hp_ground.specs.declared.consts.Consts.{Consts}
 
 -- ---- declarations

@@ -23,8 +23,8 @@ use Rattle.hp_defs.specs.Names.{sorts}
 use Rattle.hp_model.specs.WellFormed.{Declared, constants as declarations}
 use Rattle.hp_tree.specs.declared.sides.Side.{Side}
 use Rattle.hp_tree.specs.declared.sides.Side.TheVariants.{Guard, Head}
-use Rattle.hp_norm.specs.Forms.{IsSmall}
-use Rattle.hp_norm.specs.Literals.{atom_literals}
+use Rattle.hp_index.specs.Forms.{IsSmall}
+use Rattle.hp_index.specs.Literals.{atom_literals}
 use Rattle.hp_lit.specs.declared.refusal.Refusal.TheVariants as refused
 use Rattle.hp_linear.specs.Steps.{Refusable, behind}
 use Rattle.hp_linear.specs.Literals.{num_literals}

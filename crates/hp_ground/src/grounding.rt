@@ -3,7 +3,7 @@
 ghost use Rattle.std.specs.Prelude.{◌≡◌, ◌<◌, ◌≤◌, ◌^◌, length};
 ghost use Rattle.std.specs.List.{All};
 ghost use Rattle.hp_lit.specs.Limited.{many_names};
-ghost use Rattle.hp_norm.specs.Literals.{IsLight, IsLightClause};
+ghost use Rattle.hp_index.specs.Literals.{IsLight, IsLightClause};
 ghost use Rattle.hp_ground.specs.Ground.{IsGroundClause, consts_of};
 ghost use Rattle.hp_ground.specs.Answers.{GroundFound, LinedAs};
 

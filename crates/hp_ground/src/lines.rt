@@ -3,7 +3,7 @@
 ghost use Rattle.std.specs.Prelude.{◌≡◌, ◌≤◌, length};
 ghost use Rattle.std.specs.List.{All, list_all};
 ghost use Rattle.hp_lit.specs.Limited.{coefficient};
-ghost use Rattle.hp_norm.specs.Literals.{IsLightAtom, IsLightClause};
+ghost use Rattle.hp_index.specs.Literals.{IsLightAtom, IsLightClause};
 ghost use Rattle.hp_ground.specs.Ground.{IsGroundAtom, IsGroundClause};
 ghost use Rattle.hp_ground.specs.Lines.{atoms_literals, literals_of};
 ghost use Rattle.hp_ground.specs.Answers.{LineFound, LinesFound, LitsFound, Pushed};
@@ -14,7 +14,7 @@ use hp_tree::{Atom, Clause, Limit, Which};
 use hp_lit::{GroundErr, Line, Lit, Origin, Refusal};
 use hp_linear::literals as num_literals;
 use hp_tree::Side;
-use hp_norm::literals as idx_literals;
+use hp_index::literals as idx_literals;
 use hp_num::List;
 use std::alloc::Global;
 

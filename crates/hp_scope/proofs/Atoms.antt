@@ -10,9 +10,9 @@ use Rattle.hp_tree.specs.declared.problem.Atom.{Atom}
 use Rattle.hp_sorts.specs.declared.forms.Forms.{Forms}
 use Rattle.hp_sorts.specs.Symbols.{variables}
 use Rattle.hp_sorts.specs.Terms.{atom_is_sorted, atom_sort, is_sorted_as}
-use Rattle.hp_norm.specs.declared.collect.Form.{Form}
-use Rattle.hp_norm.specs.Forms.{form_of, is_index_term}
-use Rattle.hp_norm.specs.Literals.{is_index_atom, is_named}
+use Rattle.hp_index.specs.declared.collect.Form.{Form}
+use Rattle.hp_index.specs.Forms.{form_of, is_index_term}
+use Rattle.hp_index.specs.Literals.{is_index_atom, is_named}
 use Rattle.hp_ground.specs.declared.consts.Consts.{Consts}
 use Rattle.hp_ground.specs.Ground.{IsGroundAtom, is_idx_atom, is_num_atom, names_have_sort, sides_have_sort}
 use Rattle.hp_scope.proofs.Names.{ground_symbols}

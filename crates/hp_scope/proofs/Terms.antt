@@ -13,10 +13,10 @@ use Rattle.hp_tree.specs.declared.problem.Sort.TheVariants.{Num, Idx, Ptr}
 use Rattle.hp_sorts.specs.declared.forms.Forms.{Forms}
 use Rattle.hp_sorts.specs.Symbols.{variables}
 use Rattle.hp_sorts.specs.Terms.{difference_forms, first_sort, first_step, forms_step, name_forms, negation_forms, number_forms, sum_forms, term_forms}
-use Rattle.hp_norm.specs.declared.collect.Form.{Form}
-use Rattle.hp_norm.specs.declared.collect.Shape.{Shape}
-use Rattle.hp_norm.specs.declared.collect.Shape.TheVariants.{Number, Sum, Other}
-use Rattle.hp_norm.specs.Forms.{form_of, is_index_shape, is_index_term, minus_shape, named_shape, neg_shape, number_shape, plus_shape, shape_form, shape_of, shape_step}
+use Rattle.hp_index.specs.declared.collect.Form.{Form}
+use Rattle.hp_index.specs.declared.collect.Shape.{Shape}
+use Rattle.hp_index.specs.declared.collect.Shape.TheVariants.{Number, Sum, Other}
+use Rattle.hp_index.specs.Forms.{form_of, is_index_shape, is_index_term, minus_shape, named_shape, neg_shape, number_shape, plus_shape, shape_form, shape_of, shape_step}
 use Rattle.hp_ground.specs.declared.consts.Consts.{Consts}
 use Rattle.hp_ground.specs.Ground.{is_of, names_have_sort, names_step}
 use Rattle.hp_scope.proofs.Names.{ground_symbols}

@@ -5,7 +5,7 @@ ghost use Rattle.hp_defs.specs.Names.{constant_name, sorts};
 ghost use Rattle.hp_search.specs.Search.{IsCause, IsFound};
 ghost use Rattle.hp_ground.specs.Laws.{structure_of};
 ghost use Rattle.hp_ground.specs.Lines.{IsGroundOf};
-ghost use Rattle.hp_norm.specs.Literals.{IsLight};
+ghost use Rattle.hp_index.specs.Literals.{IsLight};
 ghost use Rattle.hp_solve.specs.Solved.{IsInScope, SolvedAs};
 
 use hp_tree::{Limit, Problem};

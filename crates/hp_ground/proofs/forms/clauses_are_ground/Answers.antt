@@ -1,6 +1,6 @@
 use Rattle.std.proofs.Common.{sym, subst, arith}
 use Rattle.std.proofs.lemmas.List.Elements.{All-get_or}
-use Rattle.hp_norm.specs.Literals.{IsLightClause}
+use Rattle.hp_index.specs.Literals.{IsLightClause}
 use Rattle.hp_ground.proofs.forms.clauses_are_ground.Goals as goal
 
 pub clause_is_ground-requires-clause-light : goal.clause_is_ground-requires-clause-light

@@ -3,7 +3,7 @@ use Rattle.std.specs.Prelude.{Some}
 use Rattle.std.specs.List.{All, list_all}
 use Rattle.hp_tree.specs.declared.problem.Clause.{Clause}
 use Rattle.hp_tree.specs.declared.problem.Decl.{Decl}
-use Rattle.hp_norm.specs.Literals.{IsLightClause}
+use Rattle.hp_index.specs.Literals.{IsLightClause}
 use Rattle.hp_ground.specs.declared.consts.Consts.{Consts}
 use Rattle.hp_ground.specs.declared.consts.ConstsRead.TheVariants as consts
 use Rattle.hp_ground.specs.Ground.{IsGroundClause}

@@ -1,7 +1,7 @@
 use Rattle.std.proofs.Common.{Ok, ◌+◌, sym, subst, arith}
 use Rattle.std.proofs.lemmas.List.Elements.{All-get_or}
 use Rattle.hp_tree.specs.declared.problem.Clause.{Clause}
-use Rattle.hp_norm.specs.Literals.{IsLightClause}
+use Rattle.hp_index.specs.Literals.{IsLightClause}
 use Rattle.hp_ground.specs.Answers.{LineFound}
 use Rattle.hp_ground.proofs.Steps.{LinesSoFar, line_more}
 use Rattle.hp_ground.proofs.lines.lines_of.Goals as goal

@@ -1,8 +1,8 @@
 use Rattle.std.proofs.Common.{sym, ap, ◌∙◌}
-use Rattle.hp_norm.specs.Forms.{minus_shape, plus_shape, shape_of}
-use Rattle.hp_norm.proofs.Shapes.{shape-Add, shape-Sub}
-use Rattle.hp_norm.proofs.Steps.{shape_found}
-use Rattle.hp_norm.proofs.collect.+collect.Goals as goal
+use Rattle.hp_index.specs.Forms.{minus_shape, plus_shape, shape_of}
+use Rattle.hp_index.proofs.Shapes.{shape-Add, shape-Sub}
+use Rattle.hp_index.proofs.Steps.{shape_found}
+use Rattle.hp_index.proofs.collect.+collect.Goals as goal
 
 pub returns-in-Some-collect : goal.returns-in-Some-collect
 returns-in-Some-collect t c =

@@ -1,6 +1,6 @@
 //! What ties forms to the values of terms, and literals to the truth of atoms.
 
-ghost use Rattle.hp_norm.specs.Laws.{LiteralsAreTrueWithAtoms, TermsHaveFormValues};
+ghost use Rattle.hp_index.specs.Laws.{LiteralsAreTrueWithAtoms, TermsHaveFormValues};
 
 /// An index term has the value of its form, in each environment that gives the words the values of their names.
 pub fn terms_have_form_values()

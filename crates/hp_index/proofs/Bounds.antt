@@ -9,15 +9,15 @@ use Rattle.hp_tree.specs.declared.term.Term.{Term}
 use Rattle.hp_tree.specs.declared.problem.Atom.{Atom}
 use Rattle.hp_tree.specs.declared.problem.Cmp.{Cmp}
 use Rattle.hp_tree.specs.declared.problem.Cmp.TheVariants.{Le, Lt, Eq, Ne, Ge, Gt}
-use Rattle.hp_norm.specs.declared.collect.Form.{Form}
-use Rattle.hp_norm.specs.declared.collect.Shape.{Shape}
-use Rattle.hp_norm.specs.declared.collect.Shape.TheVariants.{Number, Sum, Other}
+use Rattle.hp_index.specs.declared.collect.Form.{Form}
+use Rattle.hp_index.specs.declared.collect.Shape.{Shape}
+use Rattle.hp_index.specs.declared.collect.Shape.TheVariants.{Number, Sum, Other}
 use Rattle.hp_tree.specs.Value.{Word}
 use Rattle.hp_tree.specs.declared.sides.Side.{Side}
 use Rattle.hp_tree.specs.Sides.{taken}
-use Rattle.hp_norm.specs.Forms.{IsSmall, IsWithin, form_of, largest, shape_form, shape_of, weight}
-use Rattle.hp_norm.specs.Literals.{HasSmallBound, IsLightAtom, atom_literals, compared, literals}
-use Rattle.hp_norm.proofs.Shapes.{ShapeWithin, term-within, within-less, within-more, within-strict, within-zero}
+use Rattle.hp_index.specs.Forms.{IsSmall, IsWithin, form_of, largest, shape_form, shape_of, weight}
+use Rattle.hp_index.specs.Literals.{HasSmallBound, IsLightAtom, atom_literals, compared, literals}
+use Rattle.hp_index.proofs.Shapes.{ShapeWithin, term-within, within-less, within-more, within-strict, within-zero}
 
 shape_form-within : (w : ℕ) (s : Shape) → ShapeWithin w s → IsWithin w (shape_form s).offset
 shape_form-within w (Number k) h = h

@@ -1,7 +1,7 @@
 -- What forms mean: the value of a form at values of the names.
 use Rattle.hp_math.specs.Rational.{ℚ, whole, ◌+ℚ◌}
 use Rattle.hp_lit.specs.Truth.{Values, optional_value}
-use Rattle.hp_norm.specs.declared.collect.Form.{Form}
+use Rattle.hp_index.specs.declared.collect.Form.{Form}
 
 abbrev pub form_value : Values → Form → ℚ
 form_value v form = optional_value v form.base +ℚ whole form.offset

@@ -11,13 +11,13 @@ use Rattle.hp_tree.specs.declared.problem.Atom.{Atom}
 use Rattle.hp_tree.specs.declared.problem.Cmp.{Cmp}
 use Rattle.hp_tree.specs.declared.sides.Side.{Side}
 use Rattle.hp_tree.specs.Sides.{taken}
-use Rattle.hp_norm.specs.declared.collect.Form.{Form}
-use Rattle.hp_norm.specs.declared.collect.Shape.{Shape}
-use Rattle.hp_norm.specs.Forms.{IsSmallShape, form_of, largest, shape_of, weight}
-use Rattle.hp_norm.specs.Literals.{HasSmallBound, literals}
-use Rattle.hp_norm.specs.Answers.{AtomPushed, Pushed}
-use Rattle.hp_norm.proofs.Shapes.{too_heavy}
-use Rattle.hp_norm.proofs.Bounds.{light_atom}
+use Rattle.hp_index.specs.declared.collect.Form.{Form}
+use Rattle.hp_index.specs.declared.collect.Shape.{Shape}
+use Rattle.hp_index.specs.Forms.{IsSmallShape, form_of, largest, shape_of, weight}
+use Rattle.hp_index.specs.Literals.{HasSmallBound, literals}
+use Rattle.hp_index.specs.Answers.{AtomPushed, Pushed}
+use Rattle.hp_index.proofs.Shapes.{too_heavy}
+use Rattle.hp_index.proofs.Bounds.{light_atom}
 
 -- ---- terms
 -- what a part of the calls found is what the term is

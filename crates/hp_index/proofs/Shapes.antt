@@ -11,10 +11,10 @@ use Rattle.hp_tree.specs.declared.problem.Atom.{Atom}
 use Rattle.hp_tree.specs.declared.term.Term.TheOpen.{Term-F}
 use Rattle.hp_tree.specs.declared.term.Term.TheViews.{Add, Sub}
 use Rattle.hp_tree.specs.declared.term.Term.TheVariants.{rolls-Add, rolls-Sub}
-use Rattle.hp_norm.specs.declared.collect.Shape.{Shape}
-use Rattle.hp_norm.specs.declared.collect.Shape.TheVariants.{Number, Sum, Other}
-use Rattle.hp_norm.specs.Literals.{IsIndexAtom, is_named}
-use Rattle.hp_norm.specs.Forms.{IsWithin, form_of, is_index_term, IsSmallShape, largest, shape_of, shape_step, weight, weight_step, shifted, plus_shape, minus_shape, neg_shape, number_shape, named_shape}
+use Rattle.hp_index.specs.declared.collect.Shape.{Shape}
+use Rattle.hp_index.specs.declared.collect.Shape.TheVariants.{Number, Sum, Other}
+use Rattle.hp_index.specs.Literals.{IsIndexAtom, is_named}
+use Rattle.hp_index.specs.Forms.{IsWithin, form_of, is_index_term, IsSmallShape, largest, shape_of, shape_step, weight, weight_step, shifted, plus_shape, minus_shape, neg_shape, number_shape, named_shape}
 
 -- ---- one layer
 module _ (words : List Word) where

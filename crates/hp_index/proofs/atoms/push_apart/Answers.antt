@@ -1,8 +1,8 @@
 use Rattle.hp_lit.specs.declared.literal.Rel.TheVariants.{Lt}
 use Rattle.hp_lit.specs.declared.literal.Lit.TheVariants.{Idx}
-use Rattle.hp_norm.specs.Literals.{compared}
-use Rattle.hp_norm.proofs.Steps.{two_pushed}
-use Rattle.hp_norm.proofs.atoms.push_apart.Goals as goal
+use Rattle.hp_index.specs.Literals.{compared}
+use Rattle.hp_index.proofs.Steps.{two_pushed}
+use Rattle.hp_index.proofs.atoms.push_apart.Goals as goal
 
 pub returns : goal.returns
 returns c =

@@ -3,9 +3,9 @@
 ghost use Rattle.std.specs.Prelude.{◌≡◌, ◌<◌, ◌^◌, ◌-ℤ◌, ◌∷◌, [], MatchOption, length};
 ghost use Rattle.hp_lit.specs.declared.literal.Lit.TheVariants.{Idx};
 ghost use Rattle.hp_tree.specs.declared.problem.Cmp.TheVariants.{Ne};
-ghost use Rattle.hp_norm.specs.Forms.{IsSmall};
-ghost use Rattle.hp_norm.specs.Literals.{IsLightAtom, are_index_sides, bound_of, cancel, compared, is_index_atom, literals};
-ghost use Rattle.hp_norm.specs.Answers.{AtomPushed, Pushed};
+ghost use Rattle.hp_index.specs.Forms.{IsSmall};
+ghost use Rattle.hp_index.specs.Literals.{IsLightAtom, are_index_sides, bound_of, cancel, compared, is_index_atom, literals};
+ghost use Rattle.hp_index.specs.Answers.{AtomPushed, Pushed};
 
 use crate::collect::{Form, Shape, collect, small};
 use hp_tree::{Atom, Cmp};

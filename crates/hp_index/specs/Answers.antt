@@ -8,7 +8,7 @@ use Rattle.hp_lit.specs.declared.refusal.Refusal.TheVariants.{Wide, Memory}
 use Rattle.hp_lit.specs.Growing.{Begins}
 use Rattle.hp_tree.specs.Value.{Word}
 use Rattle.hp_tree.specs.declared.sides.Side.{Side}
-use Rattle.hp_norm.specs.Literals.{HasSmallBound, IsLightAtom, atom_literals}
+use Rattle.hp_index.specs.Literals.{HasSmallBound, IsLightAtom, atom_literals}
 
 -- literals behind those that are there, which stay at a refusal too
 abbrev pub Pushed : List Lit → List Lit → List Lit → Result (Unit {0}) Refusal → Type 0

@@ -1,7 +1,7 @@
 use Rattle.std.proofs.Common.{ap, ◌∙◌}
-use Rattle.hp_norm.specs.Forms.{shape_form}
-use Rattle.hp_norm.proofs.Steps.{atom_pushed}
-use Rattle.hp_norm.proofs.atoms.literals.Goals as goal
+use Rattle.hp_index.specs.Forms.{shape_form}
+use Rattle.hp_index.proofs.Steps.{atom_pushed}
+use Rattle.hp_index.proofs.atoms.literals.Goals as goal
 
 pub returns-in-Some-collect : goal.returns-in-Some-collect
 returns-in-Some-collect c =

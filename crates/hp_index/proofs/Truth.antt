@@ -12,13 +12,13 @@ use Rattle.hp_lit.specs.Truth.{Values, name_value, optional_value, Compares, Idx
 use Rattle.hp_tree.specs.Sides.{asked, taken}
 use Rattle.hp_tree.specs.Value.{compares}
 use Rattle.hp_tree.proofs.Compares.{le_ℚ-from, lt_ℚ-from, eq_ℚ-from, eq_ℚ-true, less_differs, more_differs, not_true, one_less, taken_asks}
-use Rattle.hp_norm.specs.declared.collect.Form.{Form}
-use Rattle.hp_norm.specs.Forms.{form_of}
-use Rattle.hp_norm.specs.Literals.{atom_literals, cancel, compared, literals}
-use Rattle.hp_norm.specs.Values.{form_value}
-use Rattle.hp_norm.specs.Laws.{LiteralsAreTrueWithAtoms}
-use Rattle.hp_norm.proofs.Sides.{le-bound, bound-le, lt-bound, bound-lt, eq-bound, bound-eq}
-use Rattle.hp_norm.proofs.Semantics.{term_value}
+use Rattle.hp_index.specs.declared.collect.Form.{Form}
+use Rattle.hp_index.specs.Forms.{form_of}
+use Rattle.hp_index.specs.Literals.{atom_literals, cancel, compared, literals}
+use Rattle.hp_index.specs.Values.{form_value}
+use Rattle.hp_index.specs.Laws.{LiteralsAreTrueWithAtoms}
+use Rattle.hp_index.proofs.Sides.{le-bound, bound-le, lt-bound, bound-lt, eq-bound, bound-eq}
+use Rattle.hp_index.proofs.Semantics.{term_value}
 
 module _ (v : Values) where
   meet : (left right : Option Name) → cancel left right ≡ true → optional_value v left ≡ optional_value v right

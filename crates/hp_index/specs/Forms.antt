@@ -6,9 +6,9 @@ use Rattle.hp_tree.specs.Value.{Word}
 use Rattle.hp_lit.specs.Words.{number}
 use Rattle.hp_tree.specs.declared.term.Term.{Term, fold-Term}
 use Rattle.hp_tree.specs.declared.term.Term.TheOpen.{Term-F}
-use Rattle.hp_norm.specs.declared.collect.Form.{Form}
-use Rattle.hp_norm.specs.declared.collect.Shape.{Shape}
-use Rattle.hp_norm.specs.declared.collect.Shape.TheVariants.{Number, Sum, Other}
+use Rattle.hp_index.specs.declared.collect.Form.{Form}
+use Rattle.hp_index.specs.declared.collect.Shape.{Shape}
+use Rattle.hp_index.specs.declared.collect.Shape.TheVariants.{Number, Sum, Other}
 
 -- a name, or nothing, plus a whole number
 abbrev pub above : Option Name → ℤ → Form

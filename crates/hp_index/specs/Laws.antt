@@ -8,9 +8,9 @@ use Rattle.hp_tree.specs.Value.{Word, Environment, Functions, atom_is_true, valu
 use Rattle.hp_lit.specs.Words.{Agrees}
 use Rattle.hp_tree.specs.declared.sides.Side.{Side}
 use Rattle.hp_tree.specs.Sides.{asked}
-use Rattle.hp_norm.specs.Forms.{form_of, is_index_term}
-use Rattle.hp_norm.specs.Literals.{atom_literals}
-use Rattle.hp_norm.specs.Values.{form_value}
+use Rattle.hp_index.specs.Forms.{form_of, is_index_term}
+use Rattle.hp_index.specs.Literals.{atom_literals}
+use Rattle.hp_index.specs.Values.{form_value}
 
 -- an index term has the value of its form, where the words have the values of their names
 abbrev pub TermsHaveFormValues : Type 0

@@ -2,7 +2,7 @@
 use Rattle.std.proofs.Common.{◌≡◌, ℤ, pos, ◌-ℤ◌, true, sym, ap, subst, ◌∙◌, arith}
 use Rattle.hp_math.specs.Rational.{ℚ, whole, ◌+ℚ◌, ◌-ℚ◌, ◌≤ℚ◌, ◌<ℚ◌, is_whole}
 use Rattle.hp_math.proofs.Field.{by_common2, by_common3, at_one, fractions, +ℚ_assoc}
-use Rattle.hp_norm.proofs.Numbers.{whole-minus, le-difference, difference-le, lt-difference, difference-lt, eq-difference, difference-eq}
+use Rattle.hp_index.proofs.Numbers.{whole-minus, le-difference, difference-le, lt-difference, difference-lt, eq-difference, difference-eq}
 
 back : (x y : ℚ) → y ≡ (y -ℚ x) +ℚ x
 back = by_common2 (λ x y. y ≡ (y -ℚ x) +ℚ x) (λ k a b. simp at_one (omega (arith, fractions)))

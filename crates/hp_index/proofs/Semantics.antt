@@ -9,12 +9,12 @@ use Rattle.hp_lit.specs.Truth.{Values, name_value, optional_value}
 use Rattle.hp_tree.specs.Value.{Word, Environment, Functions, value, value_step}
 use Rattle.hp_lit.specs.Words.{Agrees, number}
 use Rattle.hp_lit.proofs.Words.{word_value}
-use Rattle.hp_norm.specs.declared.collect.Shape.{Shape}
-use Rattle.hp_norm.specs.declared.collect.Shape.TheVariants.{Number, Sum, Other}
-use Rattle.hp_norm.specs.Forms.{is_index_shape, is_index_term, form_of, shape_form, shape_of, shape_step, shifted, plus_shape, minus_shape, neg_shape, number_shape, named_shape}
-use Rattle.hp_norm.specs.Values.{form_value}
-use Rattle.hp_norm.specs.Laws.{TermsHaveFormValues}
-use Rattle.hp_norm.proofs.Numbers.{neg-whole, whole-+, whole-of}
+use Rattle.hp_index.specs.declared.collect.Shape.{Shape}
+use Rattle.hp_index.specs.declared.collect.Shape.TheVariants.{Number, Sum, Other}
+use Rattle.hp_index.specs.Forms.{is_index_shape, is_index_term, form_of, shape_form, shape_of, shape_step, shifted, plus_shape, minus_shape, neg_shape, number_shape, named_shape}
+use Rattle.hp_index.specs.Values.{form_value}
+use Rattle.hp_index.specs.Laws.{TermsHaveFormValues}
+use Rattle.hp_index.proofs.Numbers.{neg-whole, whole-+, whole-of}
 
 module _ (v : Values) where
   abbrev pub HasValue : Shape → ℚ → Type 0

@@ -12,12 +12,12 @@ use Rattle.hp_tree.specs.declared.problem.Cmp.TheVariants.{Le, Lt, Eq, Ne, Ge, G
 use Rattle.hp_tree.specs.declared.problem.Atom.{Atom}
 use Rattle.hp_tree.specs.declared.problem.Clause.{Clause}
 use Rattle.hp_tree.specs.declared.problem.Problem.{Problem}
-use Rattle.hp_norm.specs.declared.collect.Form.{Form}
+use Rattle.hp_index.specs.declared.collect.Form.{Form}
 use Rattle.hp_tree.specs.Value.{Word}
 use Rattle.hp_tree.specs.declared.sides.Side.{Side}
 use Rattle.hp_tree.specs.Sides.{taken}
-use Rattle.hp_norm.specs.declared.collect.Shape.{Shape}
-use Rattle.hp_norm.specs.Forms.{IsSmall, form_of, is_index_shape, largest, shape_form, shape_of, weight}
+use Rattle.hp_index.specs.declared.collect.Shape.{Shape}
+use Rattle.hp_index.specs.Forms.{IsSmall, form_of, is_index_shape, largest, shape_form, shape_of, weight}
 
 -- ---- one literal
 abbrev pub is_exact : Rel → Bool

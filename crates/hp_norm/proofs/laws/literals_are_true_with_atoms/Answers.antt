@@ -1,5 +1,0 @@
-use Rattle.hp_norm.proofs.Truth as truth
-use Rattle.hp_norm.proofs.laws.literals_are_true_with_atoms.Goals as goal
-
-pub returns : goal.returns
-returns c = truth.literals_are_true_with_atoms
