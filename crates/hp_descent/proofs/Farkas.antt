@@ -20,7 +20,8 @@ use Rattle.hp_rows.specs.declared.row.Row.{Row}
 use Rattle.hp_rows.specs.Rows.{sum_of, sum_bounds, AreNotNegative, Among}
 use Rattle.hp_rows.specs.Answers.{IsRefuted}
 use Rattle.hp_rows.specs.Arithmetic.{is_nothing}
-use Rattle.hp_descent.specs.Columns.{columns, mentioned, part_names}
+use Rattle.hp_descent.specs.Columns.{columns, mentioned}
+use Rattle.hp_lit.specs.Fit.{part_names}
 use Rattle.hp_descent.specs.LiteralRows.{forward_row, backward_row, rows_by, rows_over, rows_of, width_of}
 use Rattle.hp_descent.specs.Shares.{signed_by, row_count, signed, IsNarrow, shares_from, shares_of}
 use Rattle.hp_descent.proofs.Rising.{among_names}

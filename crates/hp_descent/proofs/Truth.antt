@@ -22,7 +22,8 @@ use Rattle.hp_rows.specs.Points.{at_point, values_of}
 use Rattle.hp_rows.specs.Exact.{AreQuotients}
 use Rattle.hp_rows.specs.Answers.{IsPoint}
 use Rattle.hp_rows.specs.Rows as rows
-use Rattle.hp_descent.specs.Columns.{part_names, mentioned, columns}
+use Rattle.hp_lit.specs.Fit.{part_names}
+use Rattle.hp_descent.specs.Columns.{mentioned, columns}
 use Rattle.hp_descent.specs.LiteralRows.{scale_row, forward_row, backward_row, rows_by, rows_over, rows_of, width_of}
 use Rattle.hp_descent.specs.Answers.{IsSolution, IsChainSolution}
 use Rattle.hp_descent.proofs.Rising.{Above, Rises, columns_rise, among_names}

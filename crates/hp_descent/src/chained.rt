@@ -3,7 +3,8 @@
 
 ghost use Rattle.std.specs.Prelude.{◌≡◌, ◌<◌, IfOk, map, suc};
 ghost use Rattle.std.specs.List.{All};
-ghost use Rattle.hp_descent.specs.Columns.{AreFit, IsFit, columns};
+ghost use Rattle.hp_descent.specs.Columns.{AreNumFit, columns};
+ghost use Rattle.hp_lit.specs.Fit.{IsNumFit};
 ghost use Rattle.hp_descent.specs.Values.{ComparesAt, GivesValues, HoldsAtChain};
 
 use crate::answer::{At, DescentErr, Form, RowStrain};
@@ -31,8 +32,8 @@ pub fn value_at(
     chain: &[u32],
     other: &NumLit,
 ) -> Result<Ordering, DescentErr>
-    requires fit { AreFit lits.now }
-    requires other { IsFit other.now }
+    requires fit { AreNumFit lits.now }
+    requires other { IsNumFit other.now }
     requires chain { HoldsAtChain lits.now chain.now }
     ensures { ComparesAt lits.now chain.now other.now result }
 {
@@ -59,7 +60,7 @@ fn chain_values(
     names: &[u32],
     chain: &[u32],
 ) -> Result<List<NameValue>, DescentErr>
-    requires fit { AreFit lits.now }
+    requires fit { AreNumFit lits.now }
     requires columns { names.now ≡ columns lits.now }
     requires chain { HoldsAtChain lits.now chain.now }
     ensures { GivesValues lits.now chain.now result }

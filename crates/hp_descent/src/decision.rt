@@ -8,7 +8,7 @@ ghost use Rattle.std.specs.Prelude.{◌≡◌, ◌<◌, ◌^◌, ◌-◌, ℕ, s
 ghost use Rattle.std.specs.List.{All};
 ghost use Rattle.hp_rows.specs.Answers.{IsPoint};
 ghost use Rattle.hp_rows.specs.Strain.{IsStrain};
-ghost use Rattle.hp_descent.specs.Columns.{AreFit, columns};
+ghost use Rattle.hp_descent.specs.Columns.{AreNumFit, columns};
 ghost use Rattle.hp_descent.specs.LiteralRows.{rows_of, width_of};
 ghost use Rattle.hp_descent.specs.Values.{GivesValues};
 ghost use Rattle.hp_descent.specs.Answers.{Decides, DecidesChain, IsSmallPlace, IsStrained, at_of, form_of};
@@ -30,7 +30,7 @@ use std::alloc::{AllocError, Global};
 /// rows passes 2^127 - 1, and names the first one; `DescentErr::Memory` says that memory was wanting. Nothing is left
 /// behind. The time may be exponential in the number of literals. It asks for literals that `are_fit` takes.
 pub fn decide(alloc: Global, lits: &[NumLit]) -> Result<NumAnswer, DescentErr>
-    requires { AreFit lits.now }
+    requires { AreNumFit lits.now }
     ensures { Decides lits.now result }
 {
     match decide_chain(alloc, lits)? {
@@ -42,7 +42,7 @@ pub fn decide(alloc: Global, lits: &[NumLit]) -> Result<NumAnswer, DescentErr>
 /// As `decide`, with the chain of rows whose point gives the values: row numbers count from 1, that of t first and then
 /// those of the literals, and fall.
 pub fn decide_chain(alloc: Global, lits: &[NumLit]) -> Result<ChainAnswer, DescentErr>
-    requires { AreFit lits.now }
+    requires { AreNumFit lits.now }
     ensures { DecidesChain lits.now result }
 {
     let names = columns_of(alloc, lits)?;
@@ -51,7 +51,7 @@ pub fn decide_chain(alloc: Global, lits: &[NumLit]) -> Result<ChainAnswer, Desce
 
 /// As `decide_chain`, with the names of the columns.
 fn decide_over(alloc: Global, lits: &[NumLit], names: &[u32]) -> Result<ChainAnswer, DescentErr>
-    requires fit { AreFit lits.now }
+    requires fit { AreNumFit lits.now }
     requires columns { names.now ≡ columns lits.now }
     ensures { DecidesChain lits.now result }
 {
@@ -77,7 +77,7 @@ fn solution(
     chain: &[usize],
     point: &[Frac],
 ) -> Result<ChainAnswer, DescentErr>
-    requires fit { AreFit lits.now }
+    requires fit { AreNumFit lits.now }
     requires columns { names.now ≡ columns lits.now }
     requires point { IsPoint (rows_of lits.now) (width_of lits.now) chain.now point.now }
     ensures { DecidesChain lits.now result }
@@ -95,7 +95,7 @@ pub fn values_at(
     chain: &[usize],
     point: &[Frac],
 ) -> Result<List<NameValue>, DescentErr>
-    requires fit { AreFit lits.now }
+    requires fit { AreNumFit lits.now }
     requires columns { names.now ≡ columns lits.now }
     requires point { IsPoint (rows_of lits.now) (width_of lits.now) chain.now point.now }
     ensures { GivesValues lits.now (map suc chain.now) result }
@@ -149,7 +149,7 @@ pub fn numbered_strain(
     lits: &[NumLit],
     strain: &Strain,
 ) -> Result<RowStrain, AllocError>
-    requires fit { AreFit lits.now }
+    requires fit { AreNumFit lits.now }
     requires strain { IsStrain (rows_of lits.now) (width_of lits.now) strain.now }
     ensures { IfOk result (λ named. IsStrained lits.now named) }
 {

@@ -3,14 +3,15 @@
 ghost use Rattle.std.specs.Prelude.{◌≡◌, ◌↔◌, ◌<◌, ◌^◌, true, unsigned_abs};
 ghost use Rattle.std.specs.List.{All};
 ghost use Rattle.std.specs.List.Sorted.{IsStrictlyIncreasing};
-ghost use Rattle.hp_descent.specs.Columns.{AreFit, IsFit, part_names};
+ghost use Rattle.hp_descent.specs.Columns.{AreNumFit};
+ghost use Rattle.hp_lit.specs.Fit.{IsNumFit, part_names};
 
 use hp_lit::{NumLit, Part};
 
 /// Whether there are fewer than 2^28 literals, the names of each rise strictly, and no number has a magnitude above
 /// 2^127 - 1.
 pub fn are_fit(lits: &[NumLit]) -> bool
-    ensures { result ≡ true ↔ AreFit lits.now }
+    ensures { result ≡ true ↔ AreNumFit lits.now }
 {
     if lits.len() >= 1 << 28 {
         return false;
@@ -25,7 +26,7 @@ pub fn are_fit(lits: &[NumLit]) -> bool
 
 /// Whether the names of the literal rise strictly, and no number has a magnitude above 2^127 - 1.
 fn is_fit(lit: &NumLit) -> bool
-    ensures { result ≡ true ↔ IsFit lit.now }
+    ensures { result ≡ true ↔ IsNumFit lit.now }
 {
     lit.bound != i128::MIN && are_rising(lit.parts.as_slice()) && are_narrow(lit.parts.as_slice())
 }

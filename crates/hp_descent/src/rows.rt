@@ -4,7 +4,7 @@ ghost use Rattle.std.specs.Prelude.{◌≡◌, ◌<◌, ◌^◌, ◌++◌, ◌�
 ghost use Rattle.std.specs.List.{All};
 ghost use Rattle.std.specs.List.Sorted.{IsStrictlyIncreasing};
 ghost use Rattle.hp_lit.specs.Leaf.{coefficient};
-ghost use Rattle.hp_descent.specs.Columns.{IsFit, part_names};
+ghost use Rattle.hp_lit.specs.Fit.{IsNumFit, part_names};
 ghost use Rattle.hp_descent.specs.LiteralRows.{backward_row, forward_row, rows_by, rows_over, scale_row};
 
 use hp_lit::{NumLit, Part, Rel};
@@ -14,7 +14,7 @@ use std::alloc::{AllocError, Global};
 
 /// The rows of the literals over these names: the row of t, and then those of each literal in turn.
 pub fn rows_of(alloc: Global, names: &[u32], lits: &[NumLit]) -> Result<List<Row>, AllocError>
-    requires { All IsFit lits.now }
+    requires { All IsNumFit lits.now }
     ensures { IfOk result (λ rows. rows ≡ scale_row names.now ∷ rows_over names.now lits.now) }
 {
     let mut rows = List::new(alloc);
@@ -32,7 +32,7 @@ fn push_rows(
     lit: &NumLit,
     rows: &mut List<Row>,
 ) -> Result<(), AllocError>
-    requires { IsFit lit.now }
+    requires { IsNumFit lit.now }
     ensures { OnOk result (rows.new ≡ rows.old ++ rows_by lit.now.rel names.now lit.now) }
 {
     match lit.rel {
@@ -63,7 +63,7 @@ fn scale_row(alloc: Global, names: &[u32]) -> Result<Row, AllocError>
 
 /// The row `a.x - b*t <= most` of a literal with left side `a.x` and bound `b`.
 fn forward_row(alloc: Global, names: &[u32], lit: &NumLit, most: Whole) -> Result<Row, AllocError>
-    requires { IsFit lit.now }
+    requires { IsNumFit lit.now }
     ensures { IfOk result (λ row. row ≡ forward_row names.now lit.now most) }
 {
     let mut coefs = List::new(alloc);
@@ -76,7 +76,7 @@ fn forward_row(alloc: Global, names: &[u32], lit: &NumLit, most: Whole) -> Resul
 
 /// The row `-a.x + b*t <= 0` of a literal with left side `a.x` and bound `b`.
 fn backward_row(alloc: Global, names: &[u32], lit: &NumLit) -> Result<Row, AllocError>
-    requires { IsFit lit.now }
+    requires { IsNumFit lit.now }
     ensures { IfOk result (λ row. row ≡ backward_row names.now lit.now) }
 {
     let mut coefs = List::new(alloc);

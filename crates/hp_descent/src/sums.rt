@@ -6,7 +6,7 @@ ghost use Rattle.std.specs.Prelude.{◌≡◌, ◌↔◌, ◌<◌, ◌^◌, Ok, 
 ghost use Rattle.std.specs.List.{All};
 ghost use Rattle.hp_math.specs.Rational.{whole};
 ghost use Rattle.hp_lit.specs.Truth.{NumIsTrue, name_value, parts_value};
-ghost use Rattle.hp_descent.specs.Columns.{IsFit};
+ghost use Rattle.hp_lit.specs.Fit.{IsNumFit};
 ghost use Rattle.hp_descent.specs.Values.{Stands, add_product, is_met, sum_at, value_in};
 
 use hp_lit::{Name, NameValue, NumLit, Part, Rel, Valuation};
@@ -17,7 +17,7 @@ use std::cmp::Ordering;
 /// with 0. The error is the first operation that passes 2^127 - 1. It asks for a literal whose names rise strictly, with
 /// no number above 2^127 - 1 in magnitude.
 pub fn compare(v: &Valuation, other: &NumLit) -> Result<Ordering, Wide>
-    requires { IsFit other.now }
+    requires { IsNumFit other.now }
     ensures exact { IfOk result (λ ordering. Stands ordering (parts_value v.now.values other.now.parts) (whole other.now.bound)) }
     ensures decides { IfOk result (λ ordering. is_met other.now.rel ordering ≡ true ↔ NumIsTrue v.now.values other.now) }
     ensures wide { IfErr result (λ wide. sum_at (name_value v.now.values) (whole (pos 0)) other.now.parts ≡ Err wide) }
@@ -31,7 +31,7 @@ pub fn compare(v: &Valuation, other: &NumLit) -> Result<Ordering, Wide>
 /// Whether the literal is true at these values: a name by its number, a name past the end with 0. The error is the
 /// first operation that passes 2^127 - 1. It asks for a literal as `compare` does.
 pub fn holds(v: &Valuation, other: &NumLit) -> Result<bool, Wide>
-    requires { IsFit other.now }
+    requires { IsNumFit other.now }
     ensures yes { result ≡ Ok true → NumIsTrue v.now.values other.now }
     ensures no { result ≡ Ok false → NumIsTrue v.now.values other.now → ⊥ }
     ensures wide { IfErr result (λ wide. sum_at (name_value v.now.values) (whole (pos 0)) other.now.parts ≡ Err wide) }

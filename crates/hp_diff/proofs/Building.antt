@@ -12,7 +12,7 @@ use Rattle.hp_lit.specs.declared.literal.IdxLit.{IdxLit}
 use Rattle.hp_lit.specs.Cycle.{turned}
 use Rattle.hp_diff.specs.declared.edges.Edge.{Edge}
 use Rattle.hp_diff.specs.Labels.{EdgesFit, edge_at}
-use Rattle.hp_diff.specs.Rows.{IsSmallBound}
+use Rattle.hp_lit.specs.Fit.{IsSmallBound}
 use Rattle.hp_diff.specs.Edges.{AreEdges, HasEdge, IsCovered, IsEdgeOf, IsOver}
 
 -- the edges of the first rows

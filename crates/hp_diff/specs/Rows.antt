@@ -12,11 +12,6 @@ use Rattle.hp_lit.specs.Cycle.{IsValidIdx}
 use Rattle.hp_diff.specs.declared.answer.DiffAnswer.{DiffAnswer}
 use Rattle.hp_diff.specs.declared.answer.DiffAnswer.TheVariants.{Point, Cycle}
 
--- a bound of a magnitude of at most 10^25
-pub record IsSmallBound (n : ℤ) : Type 0 where
-  pub low : pos 0 ≤ℤ (n +ℤ pos (10 ^ 25))
-  pub high : n ≤ℤ pos (10 ^ 25)
-
 abbrev pub number_of : Option Name → List ℕ
 number_of None = []
 number_of (Some name) = name.0 ∷ []

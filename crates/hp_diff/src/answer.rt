@@ -3,7 +3,8 @@ ghost use Rattle.std.specs.Prelude.{◌≡◌, ◌≤◌, ◌<◌, ◌+◌, ◌-
 ghost use Rattle.std.specs.List.{All};
 ghost use Rattle.hp_math.specs.Rational.{whole};
 ghost use Rattle.hp_diff.specs.Edges.{AreEdges, AreNamedValues, AreNames, step_at};
-ghost use Rattle.hp_diff.specs.Rows.{IsDiffAnswer, IsSmallBound};
+ghost use Rattle.hp_diff.specs.Rows.{IsDiffAnswer};
+ghost use Rattle.hp_lit.specs.Fit.{IsSmallBound};
 ghost use Rattle.hp_diff.specs.Settled.{AreValues, value_at};
 
 use crate::edges::{Edge, edges_of};

@@ -4,7 +4,7 @@ ghost use Rattle.std.specs.List.{All};
 ghost use Rattle.std.specs.List.Sorted.{IsStrictlyIncreasing};
 ghost use Rattle.hp_lit.specs.Cycle.{turned};
 ghost use Rattle.hp_diff.specs.Edges.{AreEdges, IsNamed, IsOver};
-ghost use Rattle.hp_diff.specs.Rows.{IsSmallBound};
+ghost use Rattle.hp_lit.specs.Fit.{IsSmallBound};
 
 use crate::names::node_of;
 use hp_lit::IdxLit;

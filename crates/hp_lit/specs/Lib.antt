@@ -6,3 +6,4 @@ pub mod Words
 pub mod Growing
 pub mod Limited
 pub mod Pointers
+pub mod Fit

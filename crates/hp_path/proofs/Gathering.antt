@@ -13,7 +13,8 @@ use Rattle.hp_lit.specs.declared.literal.Lit.{Lit}
 use Rattle.hp_lit.specs.declared.literal.Lit.TheVariants.{Num}
 use Rattle.hp_lit.specs.declared.valuation.NameValue.{NameValue}
 use Rattle.hp_lit.specs.Truth.{NumIsTrue}
-use Rattle.hp_descent.specs.Columns.{columns, mentioned, part_names}
+use Rattle.hp_descent.specs.Columns.{columns, mentioned}
+use Rattle.hp_lit.specs.Fit.{part_names}
 use Rattle.hp_descent.specs.Answers.{IsSolution}
 use Rattle.hp_descent.proofs.Rising.{columns_are_names}
 use Rattle.hp_leaf.specs.Renumbered.{Stands, StandsFrom}

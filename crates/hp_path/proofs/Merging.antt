@@ -9,7 +9,7 @@ use Rattle.hp_tree.specs.declared.problem.Sort.{Sort}
 use Rattle.hp_tree.specs.declared.problem.Sort.TheVariants as sort
 use Rattle.hp_lit.specs.declared.literal.Part.{Part}
 use Rattle.hp_lit.specs.declared.literal.NumLit.{NumLit}
-use Rattle.hp_path.specs.Built.{IsNumOver}
+use Rattle.hp_lit.specs.Fit.{IsNumOver}
 use Rattle.hp_path.specs.Components.{AreLabels, AreNamesOf, IsCoarser, IsOneLabel, first_label, label_at, merged}
 
 -- ---- coarser labels

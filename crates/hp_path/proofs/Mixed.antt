@@ -17,12 +17,15 @@ use Rattle.hp_lit.specs.declared.valuation.NameValue.{NameValue}
 use Rattle.hp_lit.specs.Sorts.{AreOfSorts}
 use Rattle.hp_lit.specs.Truth.{Values, name_value, IsTrueAt, IdxIsTrue, NumIsTrue}
 use Rattle.hp_diff.specs.Rows as rows
-use Rattle.hp_diff.specs.Rows.{IsPoint, IsSmallBound, names_of, number_of}
-use Rattle.hp_descent.specs.Columns.{AreFit, IsFit, columns, mentioned, part_names}
+use Rattle.hp_diff.specs.Rows.{IsPoint, names_of, number_of}
+use Rattle.hp_lit.specs.Fit.{IsSmallBound}
+use Rattle.hp_descent.specs.Columns.{AreNumFit, columns, mentioned}
+use Rattle.hp_lit.specs.Fit.{IsNumFit, part_names}
 use Rattle.hp_descent.specs.Answers.{IsChainSolution, IsSolution}
 use Rattle.hp_descent.specs.Values.{value_in}
 use Rattle.hp_descent.proofs.Rising.{columns_are_names}
-use Rattle.hp_path.specs.Built.{IsBuilt, IsIdxSide, IsNumOver, IsRowOver, idx_lits, num_lits}
+use Rattle.hp_lit.specs.Fit.{IsBuilt, IsIdxSide, IsNumOver, IsRowOver}
+use Rattle.hp_path.specs.Kinds.{idx_lits, num_lits}
 use Rattle.hp_path.specs.Decided.{AreOfChain, AreSmallIdx, AreValuesFor}
 use Rattle.hp_path.specs.Placed.{AreApart, AreSolving, HasValue, IsValueOver}
 use Rattle.hp_path.proofs.Places.{apart_append, rising_apart, value_after, values_own}
@@ -55,10 +58,10 @@ rows_built ss (Ptr l ∷ ls) h = rows_built ss ls (All-tail (IsBuilt ss) (Ptr l)
 pub small_bounds : (ss : List Sort) (lits : List Lit) → All (IsBuilt ss) lits → All (λ row. IsSmallBound row.bound) (idx_lits lits)
 small_bounds ss lits h = All-weaker (IsRowOver ss) (λ row. IsSmallBound row.bound) (λ row r. r.bound) (idx_lits lits) (rows_built ss lits h)
 
-pub fit_over : (ss : List Sort) (nums : List NumLit) → All (IsNumOver ss) nums → length nums ≤ 100000 → AreFit nums
-fit_over ss nums h few = record { each = All-weaker (IsNumOver ss) IsFit (λ l r. r.fit) nums h; few = omega (arith, few) }
+pub fit_over : (ss : List Sort) (nums : List NumLit) → All (IsNumOver ss) nums → length nums ≤ 100000 → AreNumFit nums
+fit_over ss nums h few = record { each = All-weaker (IsNumOver ss) IsNumFit (λ l r. r.fit) nums h; few = omega (arith, few) }
 
-pub fit_nums : (ss : List Sort) (lits : List Lit) → All (IsBuilt ss) lits → length lits ≤ 100000 → AreFit (num_lits lits)
+pub fit_nums : (ss : List Sort) (lits : List Lit) → All (IsBuilt ss) lits → length lits ≤ 100000 → AreNumFit (num_lits lits)
 fit_nums ss lits h few = fit_over ss (num_lits lits) (nums_built ss lits h) (let e = fewer_nums lits in omega arith)
 
 all_true : (ss : List Sort) (lits : List Lit) (v : Values) → All (IsBuilt ss) lits → All (IdxIsTrue v) (idx_lits lits) → All (NumIsTrue v) (num_lits lits) → All (IsTrueAt v) lits

@@ -10,7 +10,7 @@ use Rattle.hp_lit.specs.declared.literal.Lit.TheVariants.{Num, Idx, Ptr}
 use Rattle.hp_lit.specs.Cycle.{IsLit}
 use Rattle.hp_leaf.specs.Renumbered.{Stands, StandsFrom}
 use Rattle.hp_path.specs.declared.parting.Parts.{Parts}
-use Rattle.hp_path.specs.Built.{idx_lits, num_lits}
+use Rattle.hp_path.specs.Kinds.{idx_lits, num_lits}
 use Rattle.hp_path.specs.Parted.{AreParts, idx_places, num_places}
 
 -- the parts so far, with those of the literals from number n + 1 on behind them, are those of all literals

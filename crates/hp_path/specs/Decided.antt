@@ -18,7 +18,7 @@ use Rattle.hp_path.specs.declared.quick.Quick.{Quick}
 use Rattle.hp_path.specs.declared.quick.Quick.TheVariants as quick
 use Rattle.hp_path.specs.declared.components.Pace.{Pace}
 use Rattle.hp_path.specs.declared.components.Pace.TheVariants as pace
-use Rattle.hp_path.specs.Built.{num_lits}
+use Rattle.hp_path.specs.Kinds.{num_lits}
 use Rattle.hp_path.specs.Parted.{num_places}
 use Rattle.hp_path.specs.Components.{IsGivenUp}
 

@@ -1,4 +1,4 @@
-pub mod Built
+pub mod Kinds
 pub mod Decided
 pub mod Parted
 pub mod Placed

@@ -3,7 +3,7 @@ use Rattle.std.specs.Prelude.{◌≡◌, ℕ, ◌+◌, List, [], ◌∷◌}
 use Rattle.hp_lit.specs.declared.literal.Lit.{Lit}
 use Rattle.hp_lit.specs.declared.literal.Lit.TheVariants.{Num, Idx, Ptr}
 use Rattle.hp_path.specs.declared.parting.Parts.{Parts}
-use Rattle.hp_path.specs.Built.{num_lits, idx_lits}
+use Rattle.hp_path.specs.Kinds.{num_lits, idx_lits}
 
 -- the numbers of the literals over fractions, where the first literal has the number n
 abbrev pub num_places : ℕ → List Lit → List ℕ

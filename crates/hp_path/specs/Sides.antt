@@ -19,7 +19,7 @@ use Rattle.hp_path.specs.declared.components.Pace.{Pace}
 use Rattle.hp_path.specs.declared.components.Side.{Side}
 use Rattle.hp_path.specs.declared.components.Side.TheVariants as side
 use Rattle.hp_path.specs.declared.parting.Parts.{Parts}
-use Rattle.hp_path.specs.Built.{idx_lits}
+use Rattle.hp_path.specs.Kinds.{idx_lits}
 use Rattle.hp_path.specs.Placed.{AreSolving}
 use Rattle.hp_path.specs.Components.{AreGivenUp, IsGivenUp, has_label, label_at, places_with}
 

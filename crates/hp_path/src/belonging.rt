@@ -2,7 +2,8 @@
 ghost use Rattle.std.specs.Prelude.{◌≡◌, ◌≤◌, IfOk, length};
 ghost use Rattle.std.specs.List.{All};
 ghost use Rattle.hp_defs.specs.Names.{sorts};
-ghost use Rattle.hp_path.specs.Built.{IsBuilt, num_lits};
+ghost use Rattle.hp_lit.specs.Fit.{IsBuilt};
+ghost use Rattle.hp_path.specs.Kinds.{num_lits};
 ghost use Rattle.hp_path.specs.Components.{AreLabels, IsComponentOfLast};
 ghost use Rattle.hp_path.specs.Parted.{num_places};
 

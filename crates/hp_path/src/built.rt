@@ -4,8 +4,8 @@ ghost use Rattle.std.specs.Prelude.{◌≡◌, ◌↔◌, Some, slice_get, true}
 ghost use Rattle.std.specs.List.{All};
 ghost use Rattle.hp_tree.specs.declared.problem.Sort.TheVariants.{Num};
 ghost use Rattle.hp_defs.specs.Names.{sorts};
-ghost use Rattle.hp_diff.specs.Rows.{IsSmallBound};
-ghost use Rattle.hp_path.specs.Built.{IsBuilt, IsIdxSide, IsNumOver, IsRowOver};
+ghost use Rattle.hp_lit.specs.Fit.{IsSmallBound};
+ghost use Rattle.hp_lit.specs.Fit.{IsBuilt, IsIdxSide, IsNumOver, IsRowOver};
 
 use hp_tree::Sort;
 use hp_defs::Names;

@@ -8,9 +8,10 @@ ghost use Rattle.std.specs.Prelude.{◌≡◌, ◌≤◌, ◌+◌, IfOk, length,
 ghost use Rattle.std.specs.List.{All, filter};
 ghost use Rattle.hp_defs.specs.Names.{sorts};
 ghost use Rattle.hp_lit.specs.declared.literal.Lit.TheVariants.{Num};
-ghost use Rattle.hp_descent.specs.Columns.{AreFit};
+ghost use Rattle.hp_descent.specs.Columns.{AreNumFit};
 ghost use Rattle.hp_leaf.specs.Renumbered.{Stands};
-ghost use Rattle.hp_path.specs.Built.{IsBuilt, IsNumOver, num_lits};
+ghost use Rattle.hp_lit.specs.Fit.{IsBuilt, IsNumOver};
+ghost use Rattle.hp_path.specs.Kinds.{num_lits};
 ghost use Rattle.hp_path.specs.Components.{AreLabels, has_label, places_with};
 ghost use Rattle.hp_path.specs.Parted.{AreParts, num_places};
 ghost use Rattle.hp_path.specs.Sides.{AreOfLabel, DecidesNums, DecidesPart, Tells};
@@ -97,7 +98,7 @@ fn none_done(alloc: Global, last: usize) -> Result<List<bool>, AllocError>
 
 /// The answer of the simplex, or of the descent where that gives up and there is time for it.
 fn answer_at(alloc: Global, pace: Pace, nums: &[NumLit]) -> Result<Attempt, AllocError>
-    requires { AreFit nums.now }
+    requires { AreNumFit nums.now }
     ensures { IfOk result (Tells pace nums.now) }
 {
     match pace {

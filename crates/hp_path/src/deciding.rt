@@ -3,7 +3,8 @@ ghost use Rattle.std.specs.Prelude.{◌≤◌, length};
 ghost use Rattle.std.specs.List.{All};
 ghost use Rattle.hp_defs.specs.Names.{sorts};
 ghost use Rattle.hp_diff.specs.Rows.{IsPoint};
-ghost use Rattle.hp_path.specs.Built.{IsBuilt, idx_lits};
+ghost use Rattle.hp_lit.specs.Fit.{IsBuilt};
+ghost use Rattle.hp_path.specs.Kinds.{idx_lits};
 ghost use Rattle.hp_path.specs.Decided.{Decides};
 ghost use Rattle.hp_path.specs.Parted.{AreParts};
 

@@ -8,7 +8,8 @@ ghost use Rattle.hp_lit.specs.Truth.{name_value};
 ghost use Rattle.hp_lit.specs.Sorts.{AreOfSorts};
 ghost use Rattle.hp_descent.specs.Values.{value_in};
 ghost use Rattle.hp_diff.specs.Rows.{IsPoint};
-ghost use Rattle.hp_path.specs.Built.{IsBuilt, idx_lits, num_lits};
+ghost use Rattle.hp_lit.specs.Fit.{IsBuilt};
+ghost use Rattle.hp_path.specs.Kinds.{idx_lits, num_lits};
 ghost use Rattle.hp_path.specs.Decided.{AreSmallIdx, AreValuesFor};
 ghost use Rattle.hp_path.specs.Placed.{AreApart, AreSolving, IsValueOver, put_all};
 

@@ -2,7 +2,7 @@
 ghost use Rattle.std.specs.Prelude.{◌≤◌, IfOk, length};
 ghost use Rattle.std.specs.List.{All};
 ghost use Rattle.hp_defs.specs.Names.{sorts};
-ghost use Rattle.hp_path.specs.Built.{IsBuilt};
+ghost use Rattle.hp_lit.specs.Fit.{IsBuilt};
 ghost use Rattle.hp_path.specs.Parted.{AreParts};
 ghost use Rattle.hp_path.specs.Sides.{DecidesRows};
 

@@ -17,7 +17,7 @@ use Rattle.hp_lit.specs.declared.proof.Choice.{Choice}
 use Rattle.hp_lit.specs.Truth.{Values, optional_value}
 use Rattle.hp_diff.specs.Rows.{IsSmallWhole}
 use Rattle.hp_leaf.specs.Tree.{lits_of, lits_at, lit_at, nothing, Place, place_lits}
-use Rattle.hp_path.specs.Built.{IsBuilt, IsIdxSide}
+use Rattle.hp_lit.specs.Fit.{IsBuilt, IsIdxSide}
 use Rattle.hp_path.specs.Decided.{AreSmallIdx}
 use Rattle.hp_search.specs.Lines.{AreBuilt, AreReadable, IsReadable}
 

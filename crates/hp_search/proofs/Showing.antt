@@ -20,7 +20,7 @@ use Rattle.hp_descent.specs.declared.answer.RowStrain.{RowStrain}
 use Rattle.hp_descent.specs.Values.{value_in}
 use Rattle.hp_descent.proofs.Addition.{sum_at_same}
 use Rattle.hp_leaf.specs.Tree.{lits_at, nothing, IsLine, Place, place_lits, IsOpenAt}
-use Rattle.hp_path.specs.Built.{IsBuilt}
+use Rattle.hp_lit.specs.Fit.{IsBuilt}
 use Rattle.hp_path.specs.Decided.{AreOfChain, AreValuesFor}
 use Rattle.hp_search.specs.declared.searching.SearchErr.{SearchErr}
 use Rattle.hp_search.specs.declared.searching.SearchErr.TheVariants as search_err

@@ -11,10 +11,10 @@ use Rattle.hp_lit.specs.declared.line.Line.{Line}
 use Rattle.hp_lit.specs.declared.proof.Choice.{Choice}
 use Rattle.hp_lit.specs.Truth.{Values, name_value, optional_value, IsTrueAt, LineIsTrue}
 use Rattle.hp_diff.specs.Rows.{IsSmallWhole}
-use Rattle.hp_descent.specs.Columns.{IsFit}
+use Rattle.hp_lit.specs.Fit.{IsNumFit}
 use Rattle.hp_descent.specs.Values.{sum_at}
 use Rattle.hp_leaf.specs.Tree.{lits_at, IsLine}
-use Rattle.hp_path.specs.Built.{IsBuilt}
+use Rattle.hp_lit.specs.Fit.{IsBuilt}
 use Rattle.hp_search.specs.declared.truth.Candidate.{Candidate}
 use Rattle.hp_search.specs.declared.truth.WideSum.{WideSum}
 use Rattle.hp_search.specs.declared.truth.LitTruth.{LitTruth}
@@ -45,7 +45,7 @@ pub record HasSmallSides (v : Values) (row : IdxLit) : Type 0 where
 
 -- a literal whose truth at these values can be told
 abbrev pub IsReadable : Values → Lit → Type 0
-IsReadable v (Num l) = IsFit l
+IsReadable v (Num l) = IsNumFit l
 IsReadable v (Idx row) = HasSmallSides v row
 IsReadable v (Ptr l) = ⊥
 

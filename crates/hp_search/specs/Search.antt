@@ -22,7 +22,7 @@ use Rattle.hp_descent.specs.declared.answer.RowStrain.{RowStrain}
 use Rattle.hp_descent.specs.declared.answer.Strain.{Strain}
 use Rattle.hp_descent.specs.Answers.{IsStrained}
 use Rattle.hp_descent.specs.Values.{IsSumStrained}
-use Rattle.hp_path.specs.Built.{num_lits}
+use Rattle.hp_path.specs.Kinds.{num_lits}
 use Rattle.hp_path.specs.Decided.{AreOfChain, AreSmallIdx, AreValuesFor}
 use Rattle.hp_search.specs.declared.ahead.Ahead.{Ahead}
 use Rattle.hp_search.specs.declared.ahead.Ahead.TheVariants as ahead

@@ -2,7 +2,7 @@
 //! is none.
 ghost use Rattle.std.specs.Prelude.{◌≡◌, IfOk, IfSome, map};
 ghost use Rattle.hp_descent.specs.Answers.{Decides};
-ghost use Rattle.hp_descent.specs.Columns.{AreFit, columns};
+ghost use Rattle.hp_descent.specs.Columns.{AreNumFit, columns};
 ghost use Rattle.hp_simplex.specs.Checks.{IsRight};
 
 use crate::bounds::bounds_of;
@@ -29,7 +29,7 @@ use std::alloc::{AllocError, Global};
 /// `DescentErr::Memory` says that memory was wanting. Nothing is left behind. It asks for literals that
 /// `hp_descent::are_fit` takes.
 pub fn decide(alloc: Global, lits: &[NumLit]) -> Result<NumAnswer, DescentErr>
-    requires { AreFit lits.now }
+    requires { AreNumFit lits.now }
     ensures { Decides lits.now result }
 {
     match attempt(alloc, lits)? {

@@ -17,8 +17,8 @@ use Rattle.hp_lit.specs.declared.line.Def.{Def}
 use Rattle.hp_lit.specs.declared.line.Line.{Line}
 use Rattle.hp_defs.specs.declared.names.Ground.{Ground}
 use Rattle.hp_defs.specs.Names.{NameList, sorts}
-use Rattle.hp_descent.specs.Columns.{part_names}
-use Rattle.hp_path.specs.Built.{IsBuilt, IsIdxSide as IsBuiltSide}
+use Rattle.hp_lit.specs.Fit.{part_names}
+use Rattle.hp_lit.specs.Fit.{IsBuilt, IsIdxSide as IsBuiltSide}
 use Rattle.hp_search.specs.Lines.{AreBuilt}
 use Rattle.hp_cert.specs.Named.{DefIsNamed, GroundIsNamed, IsName, IsNameIfAny, LineIsNamed, LitIsNamed}
 use Rattle.hp_linear.specs.Steps.{Refusable, behind}

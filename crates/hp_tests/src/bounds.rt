@@ -1,7 +1,7 @@
 //! What difference bounds answer, with ample memory, to rows whose answers are known by hand.
 ghost use Rattle.std.specs.Prelude.{◌≡◌, true};
 ghost use Rattle.std.specs.List.{All};
-ghost use Rattle.hp_diff.specs.Rows.{IsSmallBound};
+ghost use Rattle.hp_lit.specs.Fit.{IsSmallBound};
 
 use hp_lit::{IdxLit, Name, NameValue};
 use hp_diff::{DiffAnswer, decide};

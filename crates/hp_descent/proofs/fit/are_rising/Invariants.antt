@@ -1,5 +1,5 @@
 use Rattle.std.proofs.Common.{ℕ, ◌+◌, ◌<◌, get_or}
-use Rattle.hp_descent.specs.Columns.{part_names}
+use Rattle.hp_lit.specs.Fit.{part_names}
 use Rattle.hp_descent.proofs.fit.are_rising.Given as goal
 
 abbrev pub invariant-loop-at : goal.invariant-loop-at

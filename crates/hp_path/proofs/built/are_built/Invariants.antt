@@ -1,7 +1,7 @@
 use Rattle.std.proofs.Common.{ℕ, ◌<◌, get_or}
 use Rattle.hp_defs.specs.Names.{sorts}
 use Rattle.hp_lit.specs.declared.literal.Lit.{Lit}
-use Rattle.hp_path.specs.Built.{IsBuilt}
+use Rattle.hp_lit.specs.Fit.{IsBuilt}
 use Rattle.hp_path.proofs.built.are_built.Given as goal
 
 abbrev pub invariant-loop-lit : goal.invariant-loop-lit

@@ -5,10 +5,10 @@ use Rattle.hp_defs.specs.Names.{sorts}
 use Rattle.hp_lit.specs.declared.literal.Lit.TheVariants.{Num}
 use Rattle.hp_lit.specs.Leaf.{IsValidNum}
 use Rattle.hp_descent.specs.Answers.{IsSolution}
-use Rattle.hp_descent.specs.Columns.{AreFit}
+use Rattle.hp_descent.specs.Columns.{AreNumFit}
 use Rattle.hp_leaf.specs.Renumbered.{renumbered_shares}
 use Rattle.hp_leaf.proofs.Renumbered.{num_placed}
-use Rattle.hp_path.specs.Built.{IsNumOver}
+use Rattle.hp_lit.specs.Fit.{IsNumOver}
 use Rattle.hp_path.specs.Components.{has_label, places_with}
 use Rattle.hp_path.specs.Sides.{Tells}
 use Rattle.hp_path.proofs.Gathering.{fewer_with, names_with, same_count, stands_with}
@@ -23,7 +23,7 @@ answer_at-requires c =
     let ss = sorts c.args.names.now in
     let t = has_label c.args.labels.now c.args.label in
     let nums = c.args.parts.now.nums in
-    subst AreFit (sym (c.as_slice.ensures ∙ c.in_ok-component.ensures.nums))
+    subst AreNumFit (sym (c.as_slice.ensures ∙ c.in_ok-component.ensures.nums))
     (fit_over ss (filter t nums) (All-filter t (IsNumOver ss) nums c.requires.over) (omega (arith, fewer_with t nums, c.requires.few)))
 
 pub returns-in-Point-clause-decided : goal.returns-in-Point-clause-decided

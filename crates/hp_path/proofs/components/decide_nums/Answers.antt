@@ -3,7 +3,8 @@ use Rattle.std.specs.List.{All}
 use Rattle.hp_defs.specs.Names.{sorts}
 use Rattle.hp_lit.specs.declared.literal.Lit.TheVariants.{Num}
 use Rattle.hp_leaf.specs.Renumbered.{Stands}
-use Rattle.hp_path.specs.Built.{IsNumOver, num_lits}
+use Rattle.hp_lit.specs.Fit.{IsNumOver}
+use Rattle.hp_path.specs.Kinds.{num_lits}
 use Rattle.hp_path.proofs.Mixed.{fewer_nums, nums_built}
 use Rattle.hp_path.proofs.Splitting.{nums_stand}
 use Rattle.hp_path.proofs.components.decide_nums.Goals as goal

@@ -3,10 +3,10 @@ use Rattle.hp_defs.specs.Names.{sorts}
 use Rattle.hp_lit.specs.declared.literal.Lit.TheVariants.{Num}
 use Rattle.hp_lit.specs.Leaf.{IsValidNum}
 use Rattle.hp_descent.specs.Answers.{DecidesChain, IsChainSolution}
-use Rattle.hp_descent.specs.Columns.{AreFit}
+use Rattle.hp_descent.specs.Columns.{AreNumFit}
 use Rattle.hp_leaf.specs.Renumbered.{renumbered_shares}
 use Rattle.hp_leaf.proofs.Renumbered.{num_placed}
-use Rattle.hp_path.specs.Built.{num_lits}
+use Rattle.hp_path.specs.Kinds.{num_lits}
 use Rattle.hp_path.specs.Parted.{num_places}
 use Rattle.hp_path.specs.Placed.{AreSolving}
 use Rattle.hp_path.proofs.Mixed.{fit_nums, nums_built, solving}
@@ -14,7 +14,7 @@ use Rattle.hp_path.proofs.Splitting.{nums_stand}
 use Rattle.hp_path.proofs.deciding.decide_over.Goals as goal
 
 pub decide_chain-requires : goal.decide_chain-requires
-decide_chain-requires c = subst AreFit (sym (c.as_slice.ensures ∙ c.requires.parts.nums)) (fit_nums (sorts c.args.names.now) c.args.lits.now c.requires.built c.requires.few)
+decide_chain-requires c = subst AreNumFit (sym (c.as_slice.ensures ∙ c.requires.parts.nums)) (fit_nums (sorts c.args.names.now) c.args.lits.now c.requires.built c.requires.few)
 
 pub values_for-requires-clause-values : goal.values_for-requires-clause-values
 values_for-requires-clause-values c =

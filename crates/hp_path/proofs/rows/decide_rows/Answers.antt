@@ -3,10 +3,11 @@ use Rattle.std.specs.List.{All}
 use Rattle.hp_defs.specs.Names.{sorts}
 use Rattle.hp_lit.specs.declared.literal.Lit.TheVariants.{Idx}
 use Rattle.hp_lit.specs.Cycle.{IsValidIdx}
-use Rattle.hp_diff.specs.Rows.{IsDiffAnswer, IsSmallBound}
+use Rattle.hp_diff.specs.Rows.{IsDiffAnswer}
+use Rattle.hp_lit.specs.Fit.{IsSmallBound}
 use Rattle.hp_leaf.specs.Renumbered.{renumbered_steps}
 use Rattle.hp_leaf.proofs.Renumbered.{idx_placed}
-use Rattle.hp_path.specs.Built.{idx_lits}
+use Rattle.hp_path.specs.Kinds.{idx_lits}
 use Rattle.hp_path.specs.Parted.{idx_places}
 use Rattle.hp_path.proofs.Mixed.{fewer_rows, small_bounds}
 use Rattle.hp_path.proofs.Splitting.{rows_stand}

@@ -3,7 +3,7 @@ use Rattle.std.specs.List.{All}
 use Rattle.hp_defs.specs.Names.{sorts}
 use Rattle.hp_leaf.specs.Leaf.{IsValid}
 use Rattle.hp_leaf.specs.Tree.{place_lits}
-use Rattle.hp_path.specs.Built.{IsBuilt}
+use Rattle.hp_lit.specs.Fit.{IsBuilt}
 use Rattle.hp_path.specs.Decided.{AreValuesFor, DecidesQuickly}
 use Rattle.hp_search.proofs.Closing.{first_leaf, first_values}
 use Rattle.hp_search.proofs.Reading.{place_count, places_built}

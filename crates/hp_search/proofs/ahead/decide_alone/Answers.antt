@@ -1,7 +1,7 @@
 use Rattle.std.proofs.Common.{◌≤◌, ◌∙◌, length, subst, sym}
 use Rattle.std.specs.List.{All}
 use Rattle.hp_defs.specs.Names.{sorts}
-use Rattle.hp_path.specs.Built.{IsBuilt}
+use Rattle.hp_lit.specs.Fit.{IsBuilt}
 use Rattle.hp_search.proofs.Reading.{place_built, place_few}
 use Rattle.hp_search.proofs.ahead.decide_alone.Goals as goal
 

@@ -2,7 +2,7 @@ use Rattle.std.proofs.Common.{◌++◌, ◌∷◌, [], ◌∙◌, ap, subst, sym
 use Rattle.std.specs.List.{All}
 use Rattle.hp_defs.specs.Names.{sorts}
 use Rattle.hp_leaf.specs.Tree.{place_lits}
-use Rattle.hp_path.specs.Built.{IsBuilt}
+use Rattle.hp_lit.specs.Fit.{IsBuilt}
 use Rattle.hp_search.proofs.Reading.{places_built}
 use Rattle.hp_search.proofs.looking.part_beside.Goals as goal
 

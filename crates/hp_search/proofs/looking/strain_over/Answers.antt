@@ -1,7 +1,7 @@
 use Rattle.std.proofs.Common.{◌∙◌, subst, sym, Ok, IfSome}
 use Rattle.std.specs.List.{All}
 use Rattle.hp_defs.specs.Names.{sorts}
-use Rattle.hp_path.specs.Built.{IsBuilt}
+use Rattle.hp_lit.specs.Fit.{IsBuilt}
 use Rattle.hp_path.specs.Decided.{AreOfChain, Decides}
 use Rattle.hp_search.specs.Lines.{IsWideChoice}
 use Rattle.hp_search.specs.Search.{IsStrainedAt}

@@ -1,0 +1,26 @@
+-- The literals of each sort among literals of several sorts.
+use Rattle.std.specs.Prelude.{◌≡◌, List, [], ◌∷◌, Option, Some, None, slice_get}
+use Rattle.std.specs.List.{All}
+use Rattle.hp_tree.specs.declared.problem.Sort.{Sort}
+use Rattle.hp_tree.specs.declared.problem.Sort.TheVariants as sort
+use Rattle.hp_lit.specs.declared.literal.Name.{Name}
+use Rattle.hp_lit.specs.declared.literal.NumLit.{NumLit}
+use Rattle.hp_lit.specs.declared.literal.IdxLit.{IdxLit}
+use Rattle.hp_lit.specs.declared.literal.Lit.{Lit}
+use Rattle.hp_lit.specs.declared.literal.Lit.TheVariants.{Num, Idx, Ptr}
+use Rattle.hp_lit.specs.Fit.{IsSmallBound}
+use Rattle.hp_lit.specs.Fit.{IsNumFit}
+
+-- the literals over fractions, in their order
+abbrev pub num_lits : List Lit → List NumLit
+num_lits [] = []
+num_lits (Num l ∷ ls) = l ∷ num_lits ls
+num_lits (Idx row ∷ ls) = num_lits ls
+num_lits (Ptr l ∷ ls) = num_lits ls
+
+-- the literals over whole numbers, in their order
+abbrev pub idx_lits : List Lit → List IdxLit
+idx_lits [] = []
+idx_lits (Num l ∷ ls) = idx_lits ls
+idx_lits (Idx row ∷ ls) = row ∷ idx_lits ls
+idx_lits (Ptr l ∷ ls) = idx_lits ls
