@@ -13,7 +13,7 @@ use Rattle.hp_read.specs.Token.{AreTokens}
 use Rattle.hp_model.specs.WellFormed.{constants}
 use Rattle.hp_cert.specs.Spelled.{IsOther, IsOnOneLine}
 use Rattle.hp_ground.specs.Ground.{declared_name}
-use Rattle.hp_roundtrip.specs.Printed.{clause_tokens, decl_tokens}
+use Rattle.hp_roundtrip.specs.inner.Printed.{clause_tokens, decl_tokens}
 use Rattle.hp_roundtrip.proofs.Spelled.{spelled_by_tokens}
 use Rattle.hp_solve.specs.Solved.{AreNamesOnOneLine}
 use Rattle.hp_cli.specs.Verdicts.{IsRead}

@@ -23,7 +23,7 @@ use Rattle.hp_rows.specs.Arithmetic.{is_nothing}
 use Rattle.hp_descent.specs.Columns.{columns, mentioned}
 use Rattle.hp_lit.specs.Fit.{part_names}
 use Rattle.hp_descent.specs.LiteralRows.{forward_row, backward_row, rows_by, rows_over, rows_of, width_of}
-use Rattle.hp_descent.specs.Shares.{signed_by, row_count, signed, IsNarrow, shares_from, shares_of}
+use Rattle.hp_descent.specs.inner.Shares.{signed_by, row_count, signed, IsNarrow, shares_from, shares_of}
 use Rattle.hp_descent.proofs.Rising.{among_names}
 use Rattle.hp_descent.proofs.Truth.{AllAmong, among_split, all_in}
 

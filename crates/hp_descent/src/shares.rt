@@ -3,7 +3,7 @@
 ghost use Rattle.std.specs.Prelude.{◌≡◌, ◌<◌, ◌^◌, ◌++◌, ◌+◌, IfOk, OnOk, [], length, pos, drop, ◌≤ℤ◌, unsigned_abs};
 ghost use Rattle.std.specs.List.{All};
 ghost use Rattle.hp_rows.specs.Rows.{AreNotNegative, times_at};
-ghost use Rattle.hp_descent.specs.Shares.{IsNarrow, row_count, shares_of, signed_by, with_share};
+ghost use Rattle.hp_descent.specs.inner.Shares.{IsNarrow, row_count, shares_of, signed_by, with_share};
 
 use hp_lit::{NumLit, Rel, Share};
 use hp_num::{List, Whole};

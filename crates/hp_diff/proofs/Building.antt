@@ -11,9 +11,9 @@ use Rattle.std.specs.List.{All}
 use Rattle.hp_lit.specs.declared.literal.IdxLit.{IdxLit}
 use Rattle.hp_lit.specs.Cycle.{turned}
 use Rattle.hp_diff.specs.declared.edges.Edge.{Edge}
-use Rattle.hp_diff.specs.Labels.{EdgesFit, edge_at}
+use Rattle.hp_diff.specs.inner.Labels.{EdgesFit, edge_at}
 use Rattle.hp_lit.specs.Fit.{IsSmallBound}
-use Rattle.hp_diff.specs.Edges.{AreEdges, HasEdge, IsCovered, IsEdgeOf, IsOver}
+use Rattle.hp_diff.specs.inner.Edges.{AreEdges, HasEdge, IsCovered, IsEdgeOf, IsOver}
 
 -- the edges of the first rows
 pub record AreBuilt (names : List ℕ) (rows : List IdxLit) (edges : List Edge) (at : ℕ) : Type 0 where

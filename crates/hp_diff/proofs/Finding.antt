@@ -13,7 +13,7 @@ use Rattle.std.proofs.lemmas.List.Elements.{All-contains_itself, All-weaker}
 use Rattle.std.proofs.lemmas.Map.Keys.{IsStrictlyIncreasing-dedup}
 use Rattle.hp_lit.specs.declared.literal.IdxLit.{IdxLit}
 use Rattle.hp_diff.specs.Rows.{mentioned}
-use Rattle.hp_diff.specs.Edges.{AreNames}
+use Rattle.hp_diff.specs.inner.Edges.{AreNames}
 use Rattle.hp_diff.proofs.Mentions.{mentions_few}
 
 rises_by : (xs : List ℕ) → IsStrictlyIncreasing xs → (i gap : ℕ) → i + gap < length xs → get_or xs i 0 ≤ get_or xs (i + gap) 0

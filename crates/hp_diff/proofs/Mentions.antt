@@ -6,7 +6,7 @@ use Rattle.std.specs.List.{All, Contains}
 use Rattle.hp_lit.specs.declared.literal.Name.{Name}
 use Rattle.hp_lit.specs.declared.literal.IdxLit.{IdxLit}
 use Rattle.hp_diff.specs.Rows.{mentioned, number_of}
-use Rattle.hp_diff.specs.Edges.{IsNamed}
+use Rattle.hp_diff.specs.inner.Edges.{IsNamed}
 
 pub mentioned-more : (rows : List IdxLit) (row : IdxLit) → mentioned (rows ++ row ∷ []) ≡ mentioned rows ++ number_of row.left ++ number_of row.right
 mentioned-more [] row = append-nil (number_of row.left ++ number_of row.right)

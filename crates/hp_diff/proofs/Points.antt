@@ -12,10 +12,10 @@ use Rattle.hp_lit.specs.declared.literal.IdxLit.{IdxLit}
 use Rattle.hp_lit.specs.declared.valuation.NameValue.{NameValue}
 use Rattle.hp_lit.specs.Truth.{Values, name_value, optional_value, IdxIsTrue}
 use Rattle.hp_diff.specs.declared.edges.Edge.{Edge}
-use Rattle.hp_diff.specs.Labels.{edge_at}
-use Rattle.hp_diff.specs.Settled.{value_at, AreValues}
+use Rattle.hp_diff.specs.inner.Labels.{edge_at}
+use Rattle.hp_diff.specs.inner.Settled.{value_at, AreValues}
 use Rattle.hp_diff.specs.Rows.{IsPoint, IsSmallWhole, mentioned}
-use Rattle.hp_diff.specs.Edges.{AreNames, AreEdges, AreNamedValues, IsCovered, IsOver, name_at}
+use Rattle.hp_diff.specs.inner.Edges.{AreNames, AreEdges, AreNamedValues, IsCovered, IsOver, name_at}
 
 whole_difference : (a b : ℤ) → whole a -ℚ whole b ≡ whole (a -ℤ b)
 unfolding whole

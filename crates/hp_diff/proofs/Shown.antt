@@ -3,8 +3,8 @@ use Rattle.std.proofs.Common.{◌≡◌, ℕ, ◌+◌, ◌*◌, ◌^◌, ◌<◌
 use Rattle.std.specs.Prelude.{ℤ, pos, ◌+ℤ◌, ◌≤ℤ◌, ◌<ℤ◌}
 use Rattle.std.proofs.lemmas.Int.{ints}
 use Rattle.hp_diff.specs.declared.edges.Edge.{Edge}
-use Rattle.hp_diff.specs.Labels.{edge_at, EdgesFit}
-use Rattle.hp_diff.specs.Cycles.{Walk, weight, IsNegativeCycle}
+use Rattle.hp_diff.specs.inner.Labels.{edge_at, EdgesFit}
+use Rattle.hp_diff.specs.inner.Cycles.{Walk, weight, IsNegativeCycle}
 use Rattle.hp_diff.proofs.Repeats.{Walk-more, weight-more}
 
 -- after so many edges from the start

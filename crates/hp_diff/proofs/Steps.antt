@@ -8,9 +8,9 @@ use Rattle.hp_lit.specs.declared.literal.IdxLit.{IdxLit}
 use Rattle.hp_lit.specs.declared.literal.Lit.TheVariants.{Idx}
 use Rattle.hp_lit.specs.Cycle.{turned, AreRowsOf, Leads, bound_sum, IsValidIdx}
 use Rattle.hp_diff.specs.declared.edges.Edge.{Edge}
-use Rattle.hp_diff.specs.Labels.{edge_at}
-use Rattle.hp_diff.specs.Cycles.{Walk, weight, IsNegativeCycle}
-use Rattle.hp_diff.specs.Edges.{IsEdgeOf, name_at, step_at}
+use Rattle.hp_diff.specs.inner.Labels.{edge_at}
+use Rattle.hp_diff.specs.inner.Cycles.{Walk, weight, IsNegativeCycle}
+use Rattle.hp_diff.specs.inner.Edges.{IsEdgeOf, name_at, step_at}
 
 pub walk_within : (edges : List Edge) (ks : List ℕ) (a b : ℕ) → Walk edges a ks b → All (λ k. k < length edges) ks
 walk_within edges [] a b w = All-nil (λ k. k < length edges)

@@ -1,5 +1,2 @@
-pub mod Labels
-pub mod Cycles
-pub mod Settled
 pub mod Rows
-pub mod Edges
+pub mod inner

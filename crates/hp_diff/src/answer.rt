@@ -2,10 +2,10 @@
 ghost use Rattle.std.specs.Prelude.{◌≡◌, ◌≤◌, ◌<◌, ◌+◌, ◌-◌, ◌^◌, pos, neg_ℤ, ◌-ℤ◌, ◌≤ℤ◌, IfOk, length, map};
 ghost use Rattle.std.specs.List.{All};
 ghost use Rattle.hp_math.specs.Rational.{whole};
-ghost use Rattle.hp_diff.specs.Edges.{AreEdges, AreNamedValues, AreNames, step_at};
+ghost use Rattle.hp_diff.specs.inner.Edges.{AreEdges, AreNamedValues, AreNames, step_at};
 ghost use Rattle.hp_diff.specs.Rows.{IsDiffAnswer};
 ghost use Rattle.hp_lit.specs.Fit.{IsSmallBound};
-ghost use Rattle.hp_diff.specs.Settled.{AreValues, value_at};
+ghost use Rattle.hp_diff.specs.inner.Settled.{AreValues, value_at};
 
 use crate::edges::{Edge, edges_of};
 use crate::names::distinct_names;

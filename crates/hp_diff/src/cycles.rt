@@ -1,8 +1,8 @@
 //! A cycle from a walk that is as long as there are nodes: two of its labels stand at one node, and the edges between
 //! them add to less than 0, since the values of a node's labels fall.
 ghost use Rattle.std.specs.Prelude.{◌≡◌, ◌≤◌, ◌<◌, IfOk, length};
-ghost use Rattle.hp_diff.specs.Labels.{EdgesFit, AreLabels, label_at};
-ghost use Rattle.hp_diff.specs.Cycles.{Above, IsNegativeCycle, IsRepeated};
+ghost use Rattle.hp_diff.specs.inner.Labels.{EdgesFit, AreLabels, label_at};
+ghost use Rattle.hp_diff.specs.inner.Cycles.{Above, IsNegativeCycle, IsRepeated};
 
 use crate::edges::Edge;
 use crate::labels::Label;

@@ -3,7 +3,7 @@ ghost use Rattle.std.specs.Prelude.{◌≡◌, ◌≤◌, IfOk, length};
 ghost use Rattle.std.specs.List.{All};
 ghost use Rattle.std.specs.List.Sorted.{IsStrictlyIncreasing};
 ghost use Rattle.hp_lit.specs.Cycle.{turned};
-ghost use Rattle.hp_diff.specs.Edges.{AreEdges, IsNamed, IsOver};
+ghost use Rattle.hp_diff.specs.inner.Edges.{AreEdges, IsNamed, IsOver};
 ghost use Rattle.hp_lit.specs.Fit.{IsSmallBound};
 
 use crate::names::node_of;

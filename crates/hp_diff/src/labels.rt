@@ -4,7 +4,7 @@
 //! general networks, 1970).
 ghost use Rattle.std.specs.Prelude.{◌+ℤ◌, ◌<ℤ◌, ◌≤ℤ◌, FitsSigned, false, ◌≡◌, ◌≤◌, ◌<◌, ◌+◌, ◌^◌, ◌++◌, ◌∷◌, [], IfOk, IfSome, IfNone, OnErr, OnOk, length, slice_set};
 ghost use Rattle.std.specs.Int.{w128};
-ghost use Rattle.hp_diff.specs.Labels.{EdgesFit, AreLabels, AreLatest, AreRoots, AreShallow, Found, Holds, IsNext, IsRound, Turn, now_at, turn_at, with_label};
+ghost use Rattle.hp_diff.specs.inner.Labels.{EdgesFit, AreLabels, AreLatest, AreRoots, AreShallow, Found, Holds, IsNext, IsRound, Turn, now_at, turn_at, with_label};
 
 use crate::edges::Edge;
 use hp_num::List;

@@ -1,7 +1,7 @@
 //! The names of rows as numbered nodes: node 0 is for no name, and the names follow in rising order.
 ghost use Rattle.std.specs.Prelude.{◌≡◌, ◌≤◌, ◌++◌, IfOk, OnOk, length};
 ghost use Rattle.std.specs.List.Sorted.{IsStrictlyIncreasing};
-ghost use Rattle.hp_diff.specs.Edges.{AreNames, IsNamed, name_at};
+ghost use Rattle.hp_diff.specs.inner.Edges.{AreNames, IsNamed, name_at};
 ghost use Rattle.hp_diff.specs.Rows.{mentioned, number_of};
 
 use hp_lit::{IdxLit, Name};

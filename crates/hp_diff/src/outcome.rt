@@ -1,7 +1,7 @@
 //! Rounds of relaxations until all edges hold or a cycle shows, and the values that the nodes have then.
 ghost use Rattle.std.specs.Prelude.{◌≡◌, ◌≤◌, ◌<◌, IfOk, length};
-ghost use Rattle.hp_diff.specs.Labels.{EdgesFit, AreLatest};
-ghost use Rattle.hp_diff.specs.Settled.{AreValuesOf, IsSettled};
+ghost use Rattle.hp_diff.specs.inner.Labels.{EdgesFit, AreLatest};
+ghost use Rattle.hp_diff.specs.inner.Settled.{AreValuesOf, IsSettled};
 
 use crate::cycles::cycle_of;
 use crate::edges::Edge;

@@ -2,8 +2,8 @@
 //! after there is one to be found. What is found so is added up before it is answered.
 ghost use Rattle.std.specs.Prelude.{◌≡◌, ◌≤◌, ◌<◌, ◌+ℤ◌, FitsSigned, IfOk, IfSome, length};
 ghost use Rattle.std.specs.Int.{w128};
-ghost use Rattle.hp_diff.specs.Labels.{AreLabels, AreLatest, EdgesFit, edge_at};
-ghost use Rattle.hp_diff.specs.Cycles.{IsClosed};
+ghost use Rattle.hp_diff.specs.inner.Labels.{AreLabels, AreLatest, EdgesFit, edge_at};
+ghost use Rattle.hp_diff.specs.inner.Cycles.{IsClosed};
 
 use crate::edges::Edge;
 use crate::labels::{Labels, latest_label};

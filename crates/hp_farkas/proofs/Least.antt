@@ -4,7 +4,7 @@ use Rattle.std.proofs.lemmas.Bool.{ltb-true, ltb-false, leb-true, leb-false}
 use Rattle.hp_lit.specs.declared.literal.Name.{Name}
 use Rattle.hp_lit.specs.declared.literal.Part.{Part}
 use Rattle.hp_lit.specs.Leaf.{Taken}
-use Rattle.hp_farkas.specs.Next.{lower, lesser, least_part, least_name}
+use Rattle.hp_farkas.specs.inner.Next.{lower, lesser, least_part, least_name}
 use Rattle.hp_farkas.specs.Names.{HasName, Occurs}
 
 -- the least number of a set from a number on

@@ -14,7 +14,7 @@ use Rattle.hp_lit.specs.declared.proof.Share.{Share}
 use Rattle.hp_lit.specs.Cycle.{IsLit}
 use Rattle.hp_lit.specs.Leaf.{Taken, IsTaken, AreTaken}
 use Rattle.hp_farkas.specs.Sums.{add_product, add_parts, sum_from}
-use Rattle.hp_farkas.specs.Next.{least_part, least_name}
+use Rattle.hp_farkas.specs.inner.Next.{least_part, least_name}
 use Rattle.hp_farkas.specs.Check.{vanish, is_less, has_strict}
 use Rattle.hp_farkas.proofs.Rising.{drop_at}
 

@@ -1,5 +1,5 @@
 pub mod Form
 pub mod Names
 pub mod Sums
-pub mod Next
 pub mod Check
+pub mod inner

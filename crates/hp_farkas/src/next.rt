@@ -1,7 +1,7 @@
 //! The names of a combination in their order, found one after the other without memory.
 ghost use Rattle.std.specs.Prelude.{◌≡◌, List, None};
 ghost use Rattle.hp_lit.specs.Leaf.{Taken, AreTaken};
-ghost use Rattle.hp_farkas.specs.Next.{lesser, least_part, least_name};
+ghost use Rattle.hp_farkas.specs.inner.Next.{lesser, least_part, least_name};
 
 use crate::form::num_at;
 use hp_lit::{Lit, Name, Part, Share};

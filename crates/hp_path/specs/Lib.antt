@@ -1,6 +1,3 @@
 pub mod Kinds
 pub mod Decided
-pub mod Parted
-pub mod Placed
-pub mod Sides
-pub mod Components
+pub mod inner

@@ -1,6 +1,6 @@
 //! The literals of a path by their sorts, each with its number along the path.
 ghost use Rattle.std.specs.Prelude.{◌≡◌, ◌≤◌, IfOk, length};
-ghost use Rattle.hp_path.specs.Parted.{AreParts};
+ghost use Rattle.hp_path.specs.inner.Parted.{AreParts};
 
 use hp_lit::{IdxLit, Lit, NumLit, Part};
 use hp_num::List;

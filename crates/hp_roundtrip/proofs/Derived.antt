@@ -22,7 +22,7 @@ use Rattle.hp_grammar.specs.Declarations as lines
 use Rattle.hp_grammar.specs.Declarations.{SpellsSort, num, idx, ptr, called, constants_of, SpellsVariable, variable, SpellsVariables}
 use Rattle.hp_grammar.specs.Problems as grammar
 use Rattle.hp_grammar.specs.Problems.{SpellsDeclaration, constants, function, SpellsItem, clause, query, clause_of, SpellsProfile, missing, given, SpellsDeclarations, SpellsItems, SpellsProblem, problem}
-use Rattle.hp_roundtrip.specs.Printed.{tokens_at, relation_kind, atom_tokens, guard_tokens, head_tokens, sort_tokens, var_tokens, clause_tokens, decl_tokens, problem_tokens}
+use Rattle.hp_roundtrip.specs.inner.Printed.{tokens_at, relation_kind, atom_tokens, guard_tokens, head_tokens, sort_tokens, var_tokens, clause_tokens, decl_tokens, problem_tokens}
 use Rattle.hp_roundtrip.proofs.Joined.{some_items, separated, regrouped}
 use Rattle.hp_roundtrip.proofs.Deriving.{term_derived}
 

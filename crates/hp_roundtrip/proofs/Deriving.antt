@@ -8,7 +8,7 @@ use Rattle.hp_grammar.specs.declared.symbol.Symbol.{Symbol as Token}
 use Rattle.hp_grammar.specs.declared.symbol.Symbol.TheVariants.{Word as word}
 use Rattle.hp_grammar.specs.Tree.{number_of, null, named, apply, add, sub, neg, scale}
 use Rattle.hp_grammar.specs.Grammar.{SpellsTerm, SpellsPart, SpellsFactor, SpellsTerms, part, minus, sum, difference, number, product, factor, single, call, nothing, group, first, more}
-use Rattle.hp_roundtrip.specs.Printed.{tokens_at}
+use Rattle.hp_roundtrip.specs.inner.Printed.{tokens_at}
 use Rattle.hp_roundtrip.proofs.Joined.{join_by-append, not_empty}
 use Rattle.hp_roundtrip.proofs.Lowest.{number_derived}
 use Rattle.hp_roundtrip.proofs.Trees.{arguments_tokens, tokens-number_of, tokens-null, tokens-named, tokens-apply, tokens-add, tokens-sub, tokens-neg, tokens-scale}

@@ -12,7 +12,7 @@ use Rattle.hp_grammar.specs.Token.{same}
 use Rattle.hp_grammar.specs.Counts.{ends_atom, count_other, count_sign, count_word}
 use Rattle.hp_grammar.specs.Tree.{number_of, null, named, apply, add, sub, neg, scale}
 use Rattle.hp_grammar.specs.Grammar.{SpellsNumber, SpellsTerm, SpellsPart, SpellsFactor, SpellsTerms, whole, fraction, part, minus, sum, difference, number, product, factor, single, call, nothing, group, first, more}
-use Rattle.hp_roundtrip.specs.Printed.{tokens_at, frac_tokens}
+use Rattle.hp_roundtrip.specs.inner.Printed.{tokens_at, frac_tokens}
 use Rattle.hp_roundtrip.proofs.Joined.{join_by-append}
 use Rattle.hp_roundtrip.proofs.Lowest.{is_low, low_tokens, tokens-low}
 use Rattle.hp_roundtrip.proofs.Trees.{arguments_tokens, tokens-number_of, tokens-null, tokens-named, tokens-apply, tokens-add, tokens-sub, tokens-neg, tokens-scale}

@@ -21,7 +21,7 @@ use Rattle.hp_grammar.specs.Token.{is_token, AreTokens}
 use Rattle.hp_grammar.specs.Symbols.{symbols}
 use Rattle.hp_grammar.specs.declared.symbol.Symbol.{Symbol as Token}
 use Rattle.hp_grammar.specs.declared.symbol.Symbol.TheVariants.{Word as word, Name as name, Numeral as numeral}
-use Rattle.hp_roundtrip.specs.Printed.{tokens_at, relation_kind, atom_tokens, guard_tokens, head_tokens, sort_kind, sort_tokens, var_tokens, word_tokens, clause_tokens, decl_tokens, problem_tokens}
+use Rattle.hp_roundtrip.specs.inner.Printed.{tokens_at, relation_kind, atom_tokens, guard_tokens, head_tokens, sort_kind, sort_tokens, var_tokens, word_tokens, clause_tokens, decl_tokens, problem_tokens}
 use Rattle.hp_roundtrip.proofs.Cutting.{Cuts, lexed}
 use Rattle.hp_roundtrip.proofs.Pieces.{IsFree, IsSign, IsPiece, piece_sign, free_then, free_piece, free_free, sign_sign, sign_then, nothing}
 use Rattle.hp_roundtrip.proofs.Signs.{blank, line_feed, open_round, close_round, open_square, close_square, comma, colon, semicolon, conjunction, disjunction, arrow, relation}

@@ -33,7 +33,7 @@ use Rattle.hp_grammar.specs.Declarations.{SpellsSort, SpellsName, called, consta
 use Rattle.hp_grammar.specs.Problems as grammar
 use Rattle.hp_grammar.specs.Problems.{SpellsDeclaration, constants, function, SpellsItem, clause, query, SpellsProfile, missing, given, SpellsDeclarations, SpellsItems, SpellsProblem, problem}
 use Rattle.hp_grammar.proofs.Machines.{are_both}
-use Rattle.hp_roundtrip.specs.Printed.{tokens_at, frac_tokens, enclosed_tokens, relation_kind, atom_tokens, guard_tokens, head_tokens, sort_tokens, var_tokens, clause_tokens, decl_tokens, problem_tokens}
+use Rattle.hp_roundtrip.specs.inner.Printed.{tokens_at, frac_tokens, enclosed_tokens, relation_kind, atom_tokens, guard_tokens, head_tokens, sort_tokens, var_tokens, clause_tokens, decl_tokens, problem_tokens}
 use Rattle.hp_roundtrip.proofs.Joined.{join_by-append, some_items}
 use Rattle.hp_roundtrip.proofs.Lowest.{is_low, low_tokens, tokens-low}
 use Rattle.hp_roundtrip.proofs.Trees.{arguments_tokens, tokens-number_of, tokens-null, tokens-named, tokens-apply, tokens-add, tokens-sub, tokens-neg, tokens-scale}

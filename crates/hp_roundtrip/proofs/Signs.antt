@@ -12,7 +12,7 @@ use Rattle.hp_tree.specs.declared.problem.Cmp.TheVariants.{Le, Lt, Eq, Ne, Ge, G
 use Rattle.hp_ast.specs.Printing.{relation_text}
 use Rattle.hp_grammar.specs.declared.symbol.Symbol.TheVariants.{Word as word}
 use Rattle.hp_grammar.specs.Symbols.{symbol_by}
-use Rattle.hp_roundtrip.specs.Printed.{relation_kind}
+use Rattle.hp_roundtrip.specs.inner.Printed.{relation_kind}
 use Rattle.hp_roundtrip.proofs.Cutting.{bare, Cuts, cuts_from, cuts_join}
 use Rattle.hp_roundtrip.proofs.Pieces.{Stops, IsSign, sign_sign}
 

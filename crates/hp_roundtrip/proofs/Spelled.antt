@@ -13,7 +13,7 @@ use Rattle.hp_grammar.specs.Symbols.{symbol_by, symbol_of, symbols}
 use Rattle.hp_grammar.specs.Faults.{IsWithin}
 use Rattle.hp_grammar.specs.Problems.{SpellsProblem}
 use Rattle.hp_grammar.specs.Spells.{Spells}
-use Rattle.hp_roundtrip.specs.Printed.{problem_tokens}
+use Rattle.hp_roundtrip.specs.inner.Printed.{problem_tokens}
 use Rattle.hp_roundtrip.proofs.Derived.{problem_derived}
 use Rattle.hp_roundtrip.proofs.Real.{problem_real}
 use Rattle.hp_roundtrip.proofs.Within.{problem_within}

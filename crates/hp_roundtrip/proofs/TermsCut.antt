@@ -15,7 +15,7 @@ use Rattle.hp_ast.specs.Printing.{frac_text, enclosed, encloses_sum, encloses_pr
 use Rattle.hp_grammar.specs.Token.{is_token, AreTokens}
 use Rattle.hp_grammar.specs.declared.symbol.Symbol.{Symbol as Token}
 use Rattle.hp_grammar.specs.declared.symbol.Symbol.TheVariants.{Word as word, Name as name, Numeral as numeral}
-use Rattle.hp_roundtrip.specs.Printed.{whole_tokens, frac_tokens, enclosed_tokens, tokens_step, tokens_at}
+use Rattle.hp_roundtrip.specs.inner.Printed.{whole_tokens, frac_tokens, enclosed_tokens, tokens_step, tokens_at}
 use Rattle.hp_roundtrip.proofs.Pieces.{IsSign, IsPiece, piece_sign, free_then, free_piece, sign_free}
 use Rattle.hp_roundtrip.proofs.Signs.{open_round, close_round, comma, slash, plus_sign, minus_sign, times_sign}
 use Rattle.hp_roundtrip.proofs.Words.{reserved, named, counted}

@@ -11,7 +11,7 @@ use Rattle.hp_ast.specs.Printing.{encloses_sum, encloses_product}
 use Rattle.hp_grammar.specs.declared.symbol.Symbol.{Symbol as Token}
 use Rattle.hp_grammar.specs.declared.symbol.Symbol.TheVariants.{Word as word, Name as name}
 use Rattle.hp_grammar.specs.Tree.{number_of, null, named, apply, add, sub, neg, scale}
-use Rattle.hp_roundtrip.specs.Printed.{tokens_at, tokens_step, frac_tokens, enclosed_tokens}
+use Rattle.hp_roundtrip.specs.inner.Printed.{tokens_at, tokens_step, frac_tokens, enclosed_tokens}
 use Rattle.hp_roundtrip.proofs.Joined.{join_by-map}
 
 tokens-roll : (layer : Term-F Term) (place : Place) → tokens_at (roll-Term layer) place ≡ tokens_step (map-Term Term (Place → List Token) tokens_at layer) place

@@ -22,7 +22,7 @@ use Rattle.hp_grammar.specs.Declarations as lines
 use Rattle.hp_grammar.specs.Declarations.{SpellsSort, num, idx, ptr, SpellsName, called, SpellsConstants, SpellsFunction, SpellsVariable, variable, SpellsVariables}
 use Rattle.hp_grammar.specs.Problems as grammar
 use Rattle.hp_grammar.specs.Problems.{SpellsDeclaration, constants, function, SpellsItem, clause, query, clause_of, SpellsProfile, missing, given, SpellsDeclarations, SpellsItems, SpellsProblem, problem}
-use Rattle.hp_roundtrip.specs.Printed.{relation_kind, atom_tokens, guard_tokens, head_tokens, var_tokens, clause_tokens, decl_tokens, problem_tokens}
+use Rattle.hp_roundtrip.specs.inner.Printed.{relation_kind, atom_tokens, guard_tokens, head_tokens, var_tokens, clause_tokens, decl_tokens, problem_tokens}
 use Rattle.hp_roundtrip.proofs.Joined.{join_by-append, some_items, regrouped}
 use Rattle.hp_roundtrip.proofs.Derived.{guard-some, head-some, variables_derived, declarations_derived}
 use Rattle.hp_roundtrip.proofs.Counting.{other_follows, IsOther}

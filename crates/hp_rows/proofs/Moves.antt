@@ -8,7 +8,7 @@ use Rattle.hp_rows.specs.Rows.{Values, dot, row_at, Holds, Meets, Breaks, HoldsB
 use Rattle.hp_num.specs.Wide.{◌>>=◌}
 use Rattle.hp_rows.specs.Lines.{Line, line_of, pivot, reduce, equations}
 use Rattle.hp_rows.specs.Points.{at_point, point_of, HavePivots}
-use Rattle.hp_rows.specs.Descent.{high, rank, IsUnder, IsState}
+use Rattle.hp_rows.specs.inner.Descent.{high, rank, IsUnder, IsState}
 use Rattle.hp_rows.proofs.Lines.{AreReduced}
 use Rattle.hp_num.proofs.Given.{came}
 use Rattle.hp_rows.proofs.Clearing.{reduce_gave}

@@ -10,7 +10,7 @@ use Rattle.hp_rows.specs.Rows.{row_at, Holds, Breaks, AreWide, IsChain}
 use Rattle.hp_num.specs.Wide.{◌>>=◌}
 use Rattle.hp_rows.specs.Lines.{Line, line_of, pivot, clear, reduce, equations}
 use Rattle.hp_rows.specs.Points.{at_point, point_of, solve, coordinate, PointFit, HavePivots}
-use Rattle.hp_rows.specs.Descent.{high, rank, IsUnder, IsState}
+use Rattle.hp_rows.specs.inner.Descent.{high, rank, IsUnder, IsState}
 use Rattle.hp_rows.specs.declared.line.Fail.{Fail}
 use Rattle.hp_rows.specs.declared.line.Fail.TheVariants as fail
 use Rattle.hp_rows.specs.Told.{Tells}
@@ -18,7 +18,7 @@ use Rattle.hp_rows.specs.declared.descent.State.{State}
 use Rattle.hp_rows.specs.declared.descent.Step.{Step}
 use Rattle.hp_rows.specs.declared.descent.Step.TheVariants as step
 use Rattle.hp_rows.specs.Strain.{IsStrainAt}
-use Rattle.hp_rows.specs.Steps.{first_is, IsStateOf, IsPushed, StepTells}
+use Rattle.hp_rows.specs.inner.Steps.{first_is, IsStateOf, IsPushed, StepTells}
 use Rattle.hp_rows.specs.declared.answer.Place.TheVariants as place
 use Rattle.hp_num.proofs.Given.{came}
 use Rattle.hp_rows.proofs.Chains.{snoc, point_fits}

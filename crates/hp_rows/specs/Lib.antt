@@ -6,6 +6,5 @@ pub mod Points
 pub mod Exact
 pub mod Strain
 pub mod Answers
-pub mod Descent
 pub mod Told
-pub mod Steps
+pub mod inner

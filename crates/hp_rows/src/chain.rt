@@ -8,7 +8,7 @@ ghost use Rattle.hp_rows.specs.Rows.{AreWide, IsChain};
 ghost use Rattle.hp_rows.specs.Lines.{equations, line_of, marks};
 ghost use Rattle.hp_rows.specs.Points.{HavePivots};
 ghost use Rattle.hp_rows.specs.Answers.{Locates};
-ghost use Rattle.hp_rows.specs.Steps.{IsNext};
+ghost use Rattle.hp_rows.specs.inner.Steps.{IsNext};
 
 use crate::answer::{Located, Place, Strain};
 use crate::coordinates::point_of;

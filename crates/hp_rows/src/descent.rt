@@ -9,7 +9,7 @@ ghost use Rattle.hp_rows.specs.Rows.{AreWide, Breaks, row_at};
 ghost use Rattle.hp_rows.specs.Points.{at_point, PointFit};
 ghost use Rattle.hp_rows.specs.Told.{TestTells};
 ghost use Rattle.hp_rows.specs.Answers.{Answers};
-ghost use Rattle.hp_rows.specs.Steps.{IsPushed, IsStrained, IsStateOf, StepTells, first_is};
+ghost use Rattle.hp_rows.specs.inner.Steps.{IsPushed, IsStrained, IsStateOf, StepTells, first_is};
 
 use crate::answer::{Answer, Place, Strain};
 use crate::chain::{Next, next_line, strain};

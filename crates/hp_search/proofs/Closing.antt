@@ -24,7 +24,7 @@ use Rattle.hp_leaf.specs.Leaf.{IsValid}
 use Rattle.hp_leaf.specs.Tree.{lits_at, lit_at, lits_of, nothing, IsLine, place_lits, IsClosed}
 use Rattle.hp_leaf.proofs.Singles.{AreSingles, first_of, singles_closed}
 use Rattle.hp_path.specs.Decided.{AreValuesFor}
-use Rattle.hp_search.specs.Singles.{IsLeafWithin, IsSingleOf, line_at, line_in, lines_of_shares, lines_of_steps, shares_in_order, splits_of, steps_in_order}
+use Rattle.hp_search.specs.inner.Singles.{IsLeafWithin, IsSingleOf, line_at, line_in, lines_of_shares, lines_of_steps, shares_in_order, splits_of, steps_in_order}
 
 -- ---- lists
 first_all : {A : Type 0} (P : A → Type 0) (xs ys : List A) → All P (xs ++ ys) → All P xs

@@ -1,3 +1,3 @@
 pub mod Lines
-pub mod Singles
 pub mod Search
+pub mod inner

@@ -5,7 +5,7 @@ ghost use Rattle.hp_defs.specs.Names.{sorts};
 ghost use Rattle.hp_leaf.specs.Tree.{place_lits};
 ghost use Rattle.hp_search.specs.Lines.{AreBuilt};
 ghost use Rattle.hp_search.specs.Search.{FindsAhead};
-ghost use Rattle.hp_search.specs.Singles.{AreSinglesOf, IsLeafWithin};
+ghost use Rattle.hp_search.specs.inner.Singles.{AreSinglesOf, IsLeafWithin};
 
 use crate::literals::{lits_of, push_lits};
 use crate::parts::unnamed;

@@ -11,7 +11,7 @@ ghost use Rattle.hp_defs.specs.Names.{sorts};
 ghost use Rattle.hp_path.specs.Decided.{AreOfChain, AreValuesFor};
 ghost use Rattle.hp_search.specs.Lines.{AreBuilt};
 ghost use Rattle.hp_search.specs.Search.{IsCauseAt, IsCauseWithin, IsModelAt, IsPartOf, IsStrainedAt, Looks, Sees, SeesChain, sum_strain};
-ghost use Rattle.hp_search.specs.Singles.{AreSinglesOf};
+ghost use Rattle.hp_search.specs.inner.Singles.{AreSinglesOf};
 
 use crate::ahead::{Ahead, decide_ahead};
 use crate::literals::{lits_of, push_lits};

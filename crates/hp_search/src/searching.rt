@@ -6,7 +6,7 @@ ghost use Rattle.hp_defs.specs.Names.{sorts};
 ghost use Rattle.hp_leaf.specs.Tree.{limit};
 ghost use Rattle.hp_search.specs.Lines.{AreBuilt};
 ghost use Rattle.hp_search.specs.Search.{IsAt, IsCause, IsFound, IsNotSpent, Turned};
-ghost use Rattle.hp_search.specs.Singles.{AreSinglesOf};
+ghost use Rattle.hp_search.specs.inner.Singles.{AreSinglesOf};
 
 use crate::looking::{Seen, guess_model, look};
 use crate::places::{enter, go_on, leave};

@@ -5,7 +5,7 @@ ghost use Rattle.hp_defs.specs.Names.{sorts};
 ghost use Rattle.hp_leaf.specs.Leaf.{IsValid};
 ghost use Rattle.hp_leaf.specs.Tree.{IsClosed, place_lits};
 ghost use Rattle.hp_search.specs.Lines.{AreBuilt};
-ghost use Rattle.hp_search.specs.Singles.{AreSinglesOf, line_at, lines_of_shares, lines_of_steps, shares_in_order, splits_of, steps_in_order};
+ghost use Rattle.hp_search.specs.inner.Singles.{AreSinglesOf, line_at, lines_of_shares, lines_of_steps, shares_in_order, splits_of, steps_in_order};
 
 use crate::literals::lits_of;
 use hp_defs::Ground;

@@ -4,7 +4,7 @@ ghost use Rattle.hp_math.specs.Rational.{whole, ◌*ℚ◌, ◌+ℚ◌};
 ghost use Rattle.hp_lit.specs.declared.literal.Lit.TheVariants.{Num};
 ghost use Rattle.hp_lit.specs.Truth.{Compares};
 ghost use Rattle.hp_descent.specs.Columns.{columns};
-ghost use Rattle.hp_simplex.specs.Checks.{AddTo, Gives, IsRight, MeetAll, Meets};
+ghost use Rattle.hp_simplex.specs.inner.Checks.{AddTo, Gives, IsRight, MeetAll, Meets};
 
 use hp_lit::{Lit, Name, NameValue, NumLit, Part, Rel, Share};
 use hp_farkas::check_num;

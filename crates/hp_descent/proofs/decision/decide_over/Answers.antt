@@ -5,7 +5,7 @@ use Rattle.hp_lit.specs.Leaf.{IsValidNum}
 use Rattle.hp_rows.specs.Rows.{AreWide}
 use Rattle.hp_descent.specs.Columns.{columns}
 use Rattle.hp_descent.specs.LiteralRows.{rows_of}
-use Rattle.hp_descent.specs.Shares.{IsNarrow, shares_of}
+use Rattle.hp_descent.specs.inner.Shares.{IsNarrow, shares_of}
 use Rattle.hp_descent.proofs.Numbering.{are_wide, same_rows, same_width, same_answer}
 use Rattle.hp_descent.proofs.Farkas.{valid_leaf}
 use Rattle.hp_descent.proofs.decision.decide_over.Goals as goal

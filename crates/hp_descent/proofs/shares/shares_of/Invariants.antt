@@ -1,6 +1,6 @@
 use Rattle.std.proofs.Common.{◌≡◌, ◌++◌, ◌≤◌, ◌+◌, ◌*◌, drop, suc}
 use Rattle.std.specs.List.{All}
-use Rattle.hp_descent.specs.Shares.{IsNarrow, shares_from, shares_of, signed}
+use Rattle.hp_descent.specs.inner.Shares.{IsNarrow, shares_from, shares_of, signed}
 use Rattle.hp_descent.proofs.shares.shares_of.Given as goal
 
 abbrev pub invariant-loop-at : goal.invariant-loop-at

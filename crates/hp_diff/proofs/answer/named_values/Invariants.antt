@@ -1,5 +1,5 @@
 use Rattle.std.proofs.Common.{take}
-use Rattle.hp_diff.specs.Edges.{AreNamedValues}
+use Rattle.hp_diff.specs.inner.Edges.{AreNamedValues}
 use Rattle.hp_diff.proofs.answer.named_values.Given as goal
 
 abbrev pub invariant-loop-at : goal.invariant-loop-at

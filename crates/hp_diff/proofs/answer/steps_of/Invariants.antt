@@ -1,5 +1,5 @@
 use Rattle.std.proofs.Common.{◌≡◌, take, map}
-use Rattle.hp_diff.specs.Edges.{step_at}
+use Rattle.hp_diff.specs.inner.Edges.{step_at}
 use Rattle.hp_diff.proofs.answer.steps_of.Given as goal
 
 abbrev pub invariant-loop-number : goal.invariant-loop-number

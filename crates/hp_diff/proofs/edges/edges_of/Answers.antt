@@ -2,7 +2,7 @@ use Rattle.std.proofs.Common.{arith, subst}
 use Rattle.std.proofs.lemmas.List.{take_all}
 use Rattle.std.proofs.lemmas.Option.{slice_get-get_or}
 use Rattle.std.specs.List.{All}
-use Rattle.hp_diff.specs.Edges.{IsCovered}
+use Rattle.hp_diff.specs.inner.Edges.{IsCovered}
 use Rattle.hp_diff.proofs.Building.{add_exact, add_inexact, nothing_built}
 use Rattle.hp_diff.proofs.edges.edges_of.Goals as goal
 use Rattle.hp_diff.proofs.edges.edges_of.Goals.{then-row+in_ok-push-2, else-row}

@@ -1,6 +1,6 @@
 -- A name of the list is found.
 use Rattle.std.proofs.Common.{subst}
-use Rattle.hp_diff.specs.Edges.{IsNamed}
+use Rattle.hp_diff.specs.inner.Edges.{IsNamed}
 use Rattle.hp_diff.proofs.Finding.{found}
 use Rattle.hp_diff.proofs.names.node_of.Goals as goal
 

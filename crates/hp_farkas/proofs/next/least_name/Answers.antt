@@ -1,6 +1,6 @@
 use Rattle.std.proofs.Common.{◌∙◌, pos, sym, ap}
 use Rattle.hp_lit.specs.declared.proof.Share.{Share}
-use Rattle.hp_farkas.specs.Next.{least_part, least_name}
+use Rattle.hp_farkas.specs.inner.Next.{least_part, least_name}
 use Rattle.hp_farkas.proofs.Loops.{least_none, least_some}
 use Rattle.hp_farkas.proofs.next.least_name.Goals as goal
 use Rattle.hp_farkas.proofs.next.least_name.Goals.{in-Some, in_default}

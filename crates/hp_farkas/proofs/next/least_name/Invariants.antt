@@ -1,6 +1,6 @@
 use Rattle.std.proofs.Common.{◌≡◌, List, None, drop}
 use Rattle.hp_lit.specs.Leaf.{Taken, AreTaken}
-use Rattle.hp_farkas.specs.Next.{least_name}
+use Rattle.hp_farkas.specs.inner.Next.{least_name}
 use Rattle.hp_farkas.proofs.next.least_name.Given as goal
 
 abbrev pub invariant-loop-share : goal.invariant-loop-share

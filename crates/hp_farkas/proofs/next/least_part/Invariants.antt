@@ -1,5 +1,5 @@
 use Rattle.std.proofs.Common.{◌≡◌, drop}
-use Rattle.hp_farkas.specs.Next.{least_part}
+use Rattle.hp_farkas.specs.inner.Next.{least_part}
 use Rattle.hp_farkas.proofs.next.least_part.Given as goal
 
 abbrev pub invariant-loop-part : goal.invariant-loop-part

@@ -2,7 +2,7 @@ use Rattle.std.proofs.Common.{◌≡◌, reverse, sym, ◌∙◌, subst, true, f
 use Rattle.std.proofs.lemmas.List.{get_or_read}
 use Rattle.hp_rows.specs.Rows.{Holds, row_at, no_row}
 use Rattle.hp_rows.specs.Points.{at_point}
-use Rattle.hp_rows.specs.Steps.{first_is}
+use Rattle.hp_rows.specs.inner.Steps.{first_is}
 use Rattle.hp_rows.proofs.Steps.{popped, held}
 use Rattle.hp_rows.proofs.descent.advance.Goals as goal
 

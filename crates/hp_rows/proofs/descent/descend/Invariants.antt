@@ -1,6 +1,6 @@
 use Rattle.std.proofs.Common.{length, reverse, ◌-◌}
-use Rattle.hp_rows.specs.Descent.{high, rank}
-use Rattle.hp_rows.specs.Steps.{IsStateOf}
+use Rattle.hp_rows.specs.inner.Descent.{high, rank}
+use Rattle.hp_rows.specs.inner.Steps.{IsStateOf}
 use Rattle.hp_rows.proofs.descent.descend.Given as goal
 
 abbrev pub invariant-loop-state : goal.invariant-loop-state

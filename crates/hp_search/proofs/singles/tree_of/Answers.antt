@@ -3,7 +3,7 @@ use Rattle.hp_leaf.specs.declared.tree.LeafProof.TheVariants.{Num, Idx}
 use Rattle.hp_leaf.specs.declared.tree.Node.TheVariants.{Leaf}
 use Rattle.hp_leaf.specs.Leaf.{IsValid}
 use Rattle.hp_leaf.specs.Tree.{IsClosed, place_lits}
-use Rattle.hp_search.specs.Singles.{lines_of_shares, lines_of_steps, shares_in_order, splits_of, steps_in_order}
+use Rattle.hp_search.specs.inner.Singles.{lines_of_shares, lines_of_steps, shares_in_order, splits_of, steps_in_order}
 use Rattle.hp_search.proofs.Closing.{shares_close, steps_close}
 use Rattle.hp_search.proofs.singles.tree_of.Goals as goal
 

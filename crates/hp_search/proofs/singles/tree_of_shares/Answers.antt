@@ -2,7 +2,7 @@ use Rattle.std.proofs.Common.{◌≡◌, ◌+◌, ap, arith, get_or, pos, sym, t
 use Rattle.std.specs.Int.{w128}
 use Rattle.std.proofs.lemmas.Int.{ints}
 use Rattle.hp_lit.specs.declared.proof.Share.{Share}
-use Rattle.hp_search.specs.Singles.{line_at}
+use Rattle.hp_search.specs.inner.Singles.{line_at}
 use Rattle.hp_search.proofs.Closing.{more_splits, more_shares}
 use Rattle.hp_search.proofs.singles.tree_of_shares.Goals as goal
 

@@ -1,5 +1,5 @@
 use Rattle.std.proofs.Common.{refl}
-use Rattle.hp_search.specs.Singles.{line_at}
+use Rattle.hp_search.specs.inner.Singles.{line_at}
 use Rattle.hp_search.proofs.Closing.{more_splits, more_steps}
 use Rattle.hp_search.proofs.singles.tree_of_steps.Goals as goal
 

@@ -1,5 +1,5 @@
 use Rattle.std.proofs.Common.{◌≡◌, take}
-use Rattle.hp_search.specs.Singles.{lines_of_steps, splits_of, steps_in_order}
+use Rattle.hp_search.specs.inner.Singles.{lines_of_steps, splits_of, steps_in_order}
 use Rattle.hp_search.proofs.singles.tree_of_steps.Given as goal
 
 abbrev pub invariant-loop-at : goal.invariant-loop-at

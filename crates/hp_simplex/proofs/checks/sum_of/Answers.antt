@@ -1,5 +1,5 @@
 use Rattle.std.proofs.Common.{◌≡◌, arith, subst, drop}
-use Rattle.hp_simplex.specs.Checks.{AddTo}
+use Rattle.hp_simplex.specs.inner.Checks.{AddTo}
 use Rattle.hp_simplex.proofs.checks.sum_of.Goals as goal
 
 pub returns : goal.returns

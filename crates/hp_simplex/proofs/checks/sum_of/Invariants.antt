@@ -1,5 +1,5 @@
 use Rattle.std.proofs.Common.{◌≤◌, drop, length}
-use Rattle.hp_simplex.specs.Checks.{AddTo}
+use Rattle.hp_simplex.specs.inner.Checks.{AddTo}
 use Rattle.hp_simplex.proofs.checks.sum_of.Given as goal
 
 abbrev pub invariant-loop-left : goal.invariant-loop-left

@@ -1,5 +1,5 @@
 use Rattle.std.proofs.Common.{pos, sym, ap, ◌∙◌}
-use Rattle.hp_num.specs.Stored.{kept}
+use Rattle.hp_num.specs.inner.Stored.{kept}
 use Rattle.hp_num.proofs.frac.Frac.below.Goals as goal
 
 pub returns : goal.returns

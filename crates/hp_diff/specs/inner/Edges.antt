@@ -9,9 +9,9 @@ use Rattle.hp_lit.specs.declared.proof.Step.{Step}
 use Rattle.hp_lit.specs.declared.valuation.NameValue.{NameValue}
 use Rattle.hp_lit.specs.Cycle.{turned}
 use Rattle.hp_diff.specs.declared.edges.Edge.{Edge}
-use Rattle.hp_diff.specs.Labels.{edge_at}
+use Rattle.hp_diff.specs.inner.Labels.{edge_at}
 use Rattle.hp_diff.specs.Rows.{mentioned, names_of}
-use Rattle.hp_diff.specs.Settled.{value_at}
+use Rattle.hp_diff.specs.inner.Settled.{value_at}
 
 -- the names of the rows, each once, in order
 pub record AreNames (rows : List IdxLit) (names : List ℕ) : Type 0 where

@@ -13,7 +13,7 @@ use Rattle.hp_rows.specs.declared.chain.Next.TheVariants as next
 use Rattle.hp_rows.specs.Lines.{Line, line_of, pivot, reduce}
 use Rattle.hp_rows.specs.Points.{point_of}
 use Rattle.hp_rows.specs.Strain.{IsStrain}
-use Rattle.hp_rows.specs.Descent.{IsState, rank}
+use Rattle.hp_rows.specs.inner.Descent.{IsState, rank}
 use Rattle.hp_rows.specs.Answers.{IsRefuted}
 
 -- n stands first

@@ -1,0 +1,4 @@
+pub mod Labels
+pub mod Cycles
+pub mod Settled
+pub mod Edges

@@ -1,0 +1,4 @@
+pub mod Parted
+pub mod Placed
+pub mod Sides
+pub mod Components
