@@ -1,5 +1,6 @@
 -- How little a text of some length can spell.
 use Rattle.std.specs.Prelude.{ℕ, ◌+◌, ◌≤◌, List, length}
+use Rattle.hp_tree.specs.Limits.{most_bytes}
 use Rattle.hp_tree.specs.declared.problem.Problem.{Problem}
 use Rattle.hp_grammar.specs.Spells.{Spells}
 use Rattle.hp_index.specs.Literals.{IsLight}
@@ -11,7 +12,7 @@ FewItems = (bytes : List ℕ) (p : Problem) → Spells bytes p → (length p.dec
 
 -- where the text has at most 2^20 bytes, no atom has numbers that come near to 10^25 together
 abbrev pub LightNumbers : Type 0
-LightNumbers = (bytes : List ℕ) (p : Problem) → Spells bytes p → length bytes ≤ 1048576 → IsLight p
+LightNumbers = (bytes : List ℕ) (p : Problem) → Spells bytes p → length bytes ≤ most_bytes → IsLight p
 
 -- the limits on parentheses and signs leave no room for deeper terms
 abbrev pub ShallowTerms : Type 0

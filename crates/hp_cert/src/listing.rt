@@ -4,6 +4,7 @@
 
 ghost use Rattle.std.specs.Prelude.{◌≡◌, ◌≤◌, false, length, replicate, IfOk};
 ghost use Rattle.std.specs.List.{All};
+ghost use Rattle.hp_tree.specs.Limits.{most_names};
 ghost use Rattle.hp_leaf.specs.Tree.{IsClosed};
 ghost use Rattle.hp_cert.specs.Entries.{all_defs, marked_lines, with_mark, with_marks, AreSplitLines, SplitsLine};
 ghost use Rattle.hp_cert.specs.Named.{DefIsNamed, GroundIsNamed};
@@ -43,7 +44,7 @@ pub fn entries(alloc: Global, g: &Ground, tree: List<Node>) -> Result<Refutation
 fn defined(alloc: Global, names: &Names) -> Result<List<Entry>, AllocError>
     requires { All (DefIsNamed names.now) names.now.definitions }
     ensures defs { IfOk result (λ defs. defs ≡ all_defs names.now) }
-    ensures few { length names.now.definitions ≤ 4000 }
+    ensures few { length names.now.definitions ≤ most_names }
 {
     let mut defs = List::new(alloc);
     for (i, def) in names.definitions().iter().enumerate() {

@@ -3,6 +3,7 @@
 //! The sort of a name isn't stored beside it: a constant has the sort of its declaration, an application the result
 //! of its function's signature, and a sum is of sort num.
 ghost use Rattle.std.specs.Prelude.{◌≡◌, ◌-◌, ◌<◌, ◌≤◌, [], ◌∷◌, ◌++◌, length, map, slice_get, Some, OnOk, OnErr, MatchOption};
+ghost use Rattle.hp_tree.specs.Limits.{most_names};
 ghost use Rattle.hp_defs.specs.Names.{constant_name, sort_of_body, sorts, with_constant, with_signature};
 
 use hp_lit::{Body, Def, Line, Name};
@@ -40,6 +41,7 @@ pub struct Names {
 }
 
 impl Model for Names {
+    ghost use Rattle.hp_tree.specs.Limits.{most_names};
     ghost use Rattle.std.specs.Prelude.{◌≤◌, ◌+◌, length};
     ghost use Rattle.hp_defs.specs.Names.{NameList};
 
@@ -47,7 +49,7 @@ impl Model for Names {
 
     ghost view = { λ n. record { constants = n.declared; signatures = n.functions; definitions = n.made } };
 
-    ghost invariant = { λ n. length n.declared + length n.made ≤ 4000 };
+    ghost invariant = { λ n. length n.declared + length n.made ≤ most_names };
 }
 
 impl Names {
@@ -64,7 +66,7 @@ impl Names {
 
     /// Adds a constant, in the order of declarations and before all definitions. At `Err` the names are as before.
     pub fn add_constant(&mut self, name: Text, sort: Sort) -> Result<(), AllocError>
-        requires few { length self.old.constants < 4000 }
+        requires few { length self.old.constants < most_names }
         requires before { self.old.definitions ≡ [] }
         ensures added { OnOk result (self.new ≡ with_constant self.old (record { name = name; sort = sort })) }
         ensures unchanged { OnErr result (self.new ≡ self.old) }
@@ -83,7 +85,7 @@ impl Names {
     /// How many constants and definitions there are.
     pub fn count(&self) -> u64
         ensures count { result ≡ length (sorts self.now) }
-        ensures few { result ≤ 4000 }
+        ensures few { result ≤ most_names }
     {
         self.declared.len() as u64 + self.made.len() as u64
     }
@@ -128,7 +130,7 @@ impl Names {
     /// The constants, in the order of declarations.
     pub fn constants(&self) -> &[Constant]
         ensures constants { result.now ≡ self.now.constants }
-        ensures few { length result.now ≤ 4000 }
+        ensures few { length result.now ≤ most_names }
     {
         self.declared.as_slice()
     }
@@ -136,7 +138,7 @@ impl Names {
     /// The definitions, in the order of their making.
     pub fn definitions(&self) -> &[Def]
         ensures definitions { result.now ≡ self.now.definitions }
-        ensures few { length result.now ≤ 4000 }
+        ensures few { length result.now ≤ most_names }
     {
         self.made.as_slice()
     }

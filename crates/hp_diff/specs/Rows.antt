@@ -3,6 +3,7 @@ use Rattle.std.specs.Prelude.{◌≡◌, ℕ, ◌^◌, List, [], ◌∷◌, ◌+
 use Rattle.std.specs.List.{All, Contains}
 use Rattle.std.specs.List.Sorted.{IsStrictlyIncreasing}
 use Rattle.hp_math.specs.Rational.{ℚ, is_whole}
+use Rattle.hp_tree.specs.Limits.{largest_value}
 use Rattle.hp_lit.specs.declared.literal.Name.{Name}
 use Rattle.hp_lit.specs.declared.literal.IdxLit.{IdxLit}
 use Rattle.hp_lit.specs.declared.literal.Lit.TheVariants.{Idx}
@@ -28,8 +29,8 @@ names_of values = map (λ nv. nv.name.0) values
 -- a whole number of a magnitude of at most 10^37
 pub record IsSmallWhole (q : ℚ) : Type 0 where
   pub whole : is_whole q ≡ true
-  pub low : pos 0 ≤ℤ (q.num +ℤ pos (10 ^ 37))
-  pub high : q.num ≤ℤ pos (10 ^ 37)
+  pub low : pos 0 ≤ℤ (q.num +ℤ pos largest_value)
+  pub high : q.num ≤ℤ pos largest_value
 
 -- Each name of the rows has one value, no other name has one, the values are small whole numbers, and every row is true
 -- wherever the names have these values.

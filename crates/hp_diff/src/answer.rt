@@ -2,6 +2,7 @@
 ghost use Rattle.std.specs.Prelude.{◌≡◌, ◌≤◌, ◌<◌, ◌+◌, ◌-◌, ◌^◌, pos, neg_ℤ, ◌-ℤ◌, ◌≤ℤ◌, IfOk, length, map};
 ghost use Rattle.std.specs.List.{All};
 ghost use Rattle.hp_math.specs.Rational.{whole};
+ghost use Rattle.hp_tree.specs.Limits.{most_rows, largest_value};
 ghost use Rattle.hp_diff.specs.inner.Edges.{AreEdges, AreNamedValues, AreNames, step_at};
 ghost use Rattle.hp_diff.specs.Rows.{IsDiffAnswer};
 ghost use Rattle.hp_lit.specs.Fit.{IsSmallBound};
@@ -37,7 +38,7 @@ fn offset(names: &[u32], edges: &[Edge], values: &[i128], node: usize) -> i128
     requires values { AreValues (length names.now + 1) edges.now values.now }
     requires node { node ≤ length names.now }
     ensures value { result ≡ value_at values.now node -ℤ value_at values.now 0 }
-    ensures small { neg_ℤ (pos (10 ^ 37)) ≤ℤ result }
+    ensures small { neg_ℤ (pos largest_value) ≤ℤ result }
 {
     values[node] - values[0]
 }
@@ -86,7 +87,7 @@ fn answer_of(
     names: &[u32],
     edges: &[Edge],
 ) -> Result<DiffAnswer, AllocError>
-    requires few { length rows.now ≤ 100000 }
+    requires few { length rows.now ≤ most_rows }
     requires bounds { All (λ row. IsSmallBound row.bound) rows.now }
     requires names { AreNames rows.now names.now }
     requires edges { AreEdges names.now rows.now edges.now }
@@ -116,7 +117,7 @@ fn answer_of(
 /// shows (Bellman, On a routing problem, 1958). At worst this takes one round more than there are names, and memory for
 /// one label whenever a value falls.
 pub fn decide(alloc: Global, rows: &[IdxLit]) -> Result<DiffAnswer, AllocError>
-    requires few { length rows.now ≤ 100000 }
+    requires few { length rows.now ≤ most_rows }
     requires bounds { All (λ row. IsSmallBound row.bound) rows.now }
     ensures { IfOk result (λ answer. IsDiffAnswer rows.now answer) }
 {

@@ -2,6 +2,7 @@
 ghost use Rattle.std.specs.Prelude.{◌≡◌, ◌≤◌, IfOk, length};
 ghost use Rattle.std.specs.List.{All};
 ghost use Rattle.std.specs.List.Sorted.{IsStrictlyIncreasing};
+ghost use Rattle.hp_tree.specs.Limits.{most_rows};
 ghost use Rattle.hp_lit.specs.Cycle.{turned};
 ghost use Rattle.hp_diff.specs.inner.Edges.{AreEdges, IsNamed, IsOver};
 ghost use Rattle.hp_lit.specs.Fit.{IsSmallBound};
@@ -54,7 +55,7 @@ fn edge_of(names: &[u32], row: &IdxLit, lit: u32, forward: bool) -> Edge
 
 /// The edges of all rows: one for each, and for an equality a second one, turned about.
 pub fn edges_of(alloc: Global, names: &[u32], rows: &[IdxLit]) -> Result<Vec<Edge>, AllocError>
-    requires few { length rows.now ≤ 100000 }
+    requires few { length rows.now ≤ most_rows }
     requires bounds { All (λ row. IsSmallBound row.bound) rows.now }
     requires rising { IsStrictlyIncreasing names.now }
     requires left { All (λ row. IsNamed names.now row.left) rows.now }

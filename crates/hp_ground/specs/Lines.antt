@@ -2,6 +2,7 @@
 use Rattle.std.specs.Prelude.{◌≡◌, ℕ, ◌+◌, List, [], ◌∷◌, map, length, Bool, true, false, if◌then◌else◌, Option, Some, None, Ok, Err, slice_get, nat_lt}
 use Rattle.std.specs.List.{All}
 use Rattle.hp_num.specs.Wide.{◌>>=◌}
+use Rattle.hp_tree.specs.Limits.{most_names}
 use Rattle.hp_tree.specs.declared.limit.Limit.{Limit}
 use Rattle.hp_tree.specs.declared.problem.Sort.{Sort}
 use Rattle.hp_tree.specs.declared.problem.Sort.TheVariants as sort
@@ -82,7 +83,7 @@ wide_item before (Some clause) = Some (coefficient (before + clause))
 -- The limit that a problem passes first: that on its constants, and then that on the numbers of its clauses. Items are the
 -- declarations and then the clauses.
 abbrev pub limit_of : Problem → Option Limit
-limit_of p = if nat_lt 4000 (length p.decls) then Some many_names else wide_item (length p.decls) (first_wide p)
+limit_of p = if nat_lt most_names (length p.decls) then Some many_names else wide_item (length p.decls) (first_wide p)
 
 -- ---- what the search asks of lines
 -- no name, or one of sort idx

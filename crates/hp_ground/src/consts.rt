@@ -1,6 +1,7 @@
 //! The constants of a problem with their sorts.
 
 ghost use Rattle.std.specs.Prelude.{◌≡◌, ◌<◌, ◌≤◌, ◌++◌, [], ◌∷◌, IfOk, MatchOption, OnOk, length, map};
+ghost use Rattle.hp_tree.specs.Limits.{most_names};
 ghost use Rattle.hp_tree.specs.declared.problem.Decl.TheVariants.{Const};
 ghost use Rattle.hp_ground.specs.Ground.{IsGroundDecl, decl_name, sort_of};
 ghost use Rattle.hp_model.specs.WellFormed.{constants};
@@ -96,7 +97,7 @@ pub fn consts_of(alloc: Global, decls: &[Decl]) -> ConstsRead
 
 /// The declared constants with their sorts, in the order of their declarations.
 pub fn names_of(alloc: Global, decls: &[Decl]) -> Result<Names, AllocError>
-    requires { length decls.now ≤ 4000 }
+    requires { length decls.now ≤ most_names }
     ensures { IfOk result (AreNamesOf decls.now) }
 {
     let mut names = Names::new(alloc);
@@ -108,7 +109,7 @@ pub fn names_of(alloc: Global, decls: &[Decl]) -> Result<Names, AllocError>
 
 /// Adds the constant of a declaration, where it is one of a constant.
 fn add(alloc: Global, names: &mut Names, decl: &Decl) -> Result<(), AllocError>
-    requires few { length names.old.constants < 4000 }
+    requires few { length names.old.constants < most_names }
     requires before { names.old.definitions ≡ [] }
     ensures constants { OnOk result (names.new.constants ≡ names.old.constants ++ map as_constant (constants (decl.now ∷ []))) }
     ensures definitions { OnOk result (names.new.definitions ≡ []) }

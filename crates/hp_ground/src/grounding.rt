@@ -2,6 +2,7 @@
 
 ghost use Rattle.std.specs.Prelude.{◌≡◌, ◌<◌, ◌≤◌, ◌^◌, length};
 ghost use Rattle.std.specs.List.{All};
+ghost use Rattle.hp_tree.specs.Limits.{most_clauses, most_names};
 ghost use Rattle.hp_lit.specs.Limited.{many_names};
 ghost use Rattle.hp_index.specs.Literals.{IsLight, IsLightClause};
 ghost use Rattle.hp_ground.specs.Ground.{IsGroundClause, consts_of};
@@ -36,7 +37,7 @@ const MOST_NAMES: usize = 4_000;
 /// of each atom, those in arguments and those that multiply left out, add up to less than 10^25.
 pub fn ground(alloc: Global, p: &Problem) -> Result<Option<Ground>, GroundErr>
     requires constants { length p.now.decls < 2 ^ 28 }
-    requires clauses { length p.now.clauses ≤ 2000 }
+    requires clauses { length p.now.clauses ≤ most_clauses }
     requires light { IsLight p.now }
     ensures { GroundFound p.now result }
 {
@@ -73,8 +74,8 @@ fn with_lines(
     consts: &Consts,
     clauses: &[Clause],
 ) -> Result<Option<Ground>, GroundErr>
-    requires few { length decls.now ≤ 4000 }
-    requires most { length clauses.now ≤ 2000 }
+    requires few { length decls.now ≤ most_names }
+    requires most { length clauses.now ≤ most_clauses }
     requires consts { consts.now ≡ consts_of decls.now }
     requires ground { All (IsGroundClause consts.now) clauses.now }
     requires light { All IsLightClause clauses.now }

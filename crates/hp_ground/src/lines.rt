@@ -2,6 +2,7 @@
 
 ghost use Rattle.std.specs.Prelude.{◌≡◌, ◌≤◌, length};
 ghost use Rattle.std.specs.List.{All, list_all};
+ghost use Rattle.hp_tree.specs.Limits.{most_clauses, most_names};
 ghost use Rattle.hp_lit.specs.Limited.{coefficient};
 ghost use Rattle.hp_index.specs.Literals.{IsLightAtom, IsLightClause};
 ghost use Rattle.hp_ground.specs.Ground.{IsGroundAtom, IsGroundClause};
@@ -37,10 +38,10 @@ pub fn lines_of(
     before: u32,
     clauses: &[Clause],
 ) -> Result<List<Line>, GroundErr>
-    requires before { before ≤ 4000 }
-    requires few { length consts.now.names ≤ 4000 }
+    requires before { before ≤ most_names }
+    requires few { length consts.now.names ≤ most_names }
     requires sorts { length consts.now.sorts ≡ length consts.now.names }
-    requires most { length clauses.now ≤ 2000 }
+    requires most { length clauses.now ≤ most_clauses }
     requires ground { All (IsGroundClause consts.now) clauses.now }
     requires light { All IsLightClause clauses.now }
     ensures { LinesFound consts.now before clauses.now result }
@@ -67,7 +68,7 @@ fn line_of(
     number: u32,
     clause: &Clause,
 ) -> Result<Line, Refusal>
-    requires few { length consts.now.names ≤ 4000 }
+    requires few { length consts.now.names ≤ most_names }
     requires sorts { length consts.now.sorts ≡ length consts.now.names }
     requires ground { IsGroundClause consts.now clause.now }
     requires light { IsLightClause clause.now }
@@ -82,7 +83,7 @@ fn line_of(
 
 /// The literals of the guard's atoms, and then those of the head's.
 fn lits_of(alloc: Global, consts: &Consts, clause: &Clause) -> Result<List<Lit>, Refusal>
-    requires few { length consts.now.names ≤ 4000 }
+    requires few { length consts.now.names ≤ most_names }
     requires sorts { length consts.now.sorts ≡ length consts.now.names }
     requires ground { IsGroundClause consts.now clause.now }
     requires light { IsLightClause clause.now }
@@ -108,7 +109,7 @@ fn push_atoms(
     atoms: &[Atom],
     lits: &mut List<Lit>,
 ) -> Result<(), Refusal>
-    requires few { length consts.now.names ≤ 4000 }
+    requires few { length consts.now.names ≤ most_names }
     requires sorts { length consts.now.sorts ≡ length consts.now.names }
     requires ground { All (IsGroundAtom consts.now) atoms.now }
     requires light { All IsLightAtom atoms.now }
@@ -128,7 +129,7 @@ fn push_atom(
     atom: &Atom,
     lits: &mut List<Lit>,
 ) -> Result<(), Refusal>
-    requires few { length consts.now.names ≤ 4000 }
+    requires few { length consts.now.names ≤ most_names }
     requires sorts { length consts.now.sorts ≡ length consts.now.names }
     requires ground { IsGroundAtom consts.now atom.now }
     requires light { IsLightAtom atom.now }

@@ -1,6 +1,7 @@
 -- Index terms over words, and the word plus a whole number that each of them is.
 use Rattle.std.specs.Prelude.{ℕ, ◌+◌, ◌^◌, if◌then◌else◌, Bool, true, false, List, ℤ, pos, neg_ℤ, ◌+ℤ◌, ◌≤ℤ◌, Option, Some, None, unsigned_abs}
 use Rattle.hp_math.specs.Rational.{ℚ, is_whole}
+use Rattle.hp_tree.specs.Limits.{largest_bound}
 use Rattle.hp_lit.specs.declared.literal.Name.{Name}
 use Rattle.hp_tree.specs.Value.{Word}
 use Rattle.hp_lit.specs.Words.{number}
@@ -92,7 +93,7 @@ pub record IsWithin (most : ℕ) (n : ℤ) : Type 0 where
 
 -- the largest magnitude of a number that is collected
 abbrev pub largest : ℕ
-largest = 10 ^ 25
+largest = largest_bound
 
 abbrev pub IsSmall : ℤ → Type 0
 IsSmall n = IsWithin largest n

@@ -1,6 +1,7 @@
 //! The literals of atoms: each compares a sum of whole copies of names with a whole number.
 
 ghost use Rattle.std.specs.Prelude.{◌≡◌, ◌≤◌, ◌∷◌, [], Ok, length};
+ghost use Rattle.hp_tree.specs.Limits.{most_names};
 ghost use Rattle.hp_linear.specs.Literals.{apart_literals, compared, literals, num_literals, one_literal};
 ghost use Rattle.hp_linear.specs.Answers.{Answers, Pushed, Written};
 
@@ -30,7 +31,7 @@ pub fn literals(
     atom: &Atom,
     lits: &mut List<Lit>,
 ) -> Result<(), Refusal>
-    requires { length index.now ≤ 4000 }
+    requires { length index.now ≤ most_names }
     ensures { Pushed (length index.now) (num_literals index.now side atom.now) lits.old lits.new result }
 {
     let left = collect(alloc, index, &atom.left)?;

@@ -1,6 +1,7 @@
 //! The linear form of a term, from inside out, the left operand first.
 
 ghost use Rattle.std.specs.Prelude.{◌≡◌, ◌≤◌, length};
+ghost use Rattle.hp_tree.specs.Limits.{most_names};
 ghost use Rattle.hp_lit.specs.Words.{number};
 ghost use Rattle.hp_linear.specs.Forms.{lin_of};
 ghost use Rattle.hp_linear.specs.Answers.{Answers};
@@ -13,7 +14,7 @@ use std::alloc::Global;
 
 /// The name that a word stands for, by its place among the words.
 fn place(index: &NameIndex, name: &[u8]) -> Option<Name>
-    requires { length index.now ≤ 4000 }
+    requires { length index.now ≤ most_names }
     ensures { result ≡ number index.now name.now }
 {
     match index.position(name) {
@@ -24,7 +25,7 @@ fn place(index: &NameIndex, name: &[u8]) -> Option<Name>
 
 /// The form of a term of sort num over these words. Null, an application and any other word count as 0.
 pub fn collect(alloc: Global, index: &NameIndex, term: &Term) -> Result<Form, Refusal>
-    requires { length index.now ≤ 4000 }
+    requires { length index.now ≤ most_names }
     ensures { Answers (lin_of index.now term.now) result }
 {
     match term {

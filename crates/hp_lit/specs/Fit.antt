@@ -2,6 +2,7 @@
 use Rattle.std.specs.Prelude.{◌≡◌, ℕ, ◌<◌, ◌^◌, List, ℤ, pos, ◌+ℤ◌, ◌≤ℤ◌, map, Option, Some, None, slice_get, unsigned_abs}
 use Rattle.std.specs.List.{All}
 use Rattle.std.specs.List.Sorted.{IsStrictlyIncreasing}
+use Rattle.hp_tree.specs.Limits.{largest_bound}
 use Rattle.hp_tree.specs.declared.problem.Sort.{Sort}
 use Rattle.hp_tree.specs.declared.problem.Sort.TheVariants as sort
 use Rattle.hp_lit.specs.declared.literal.Name.{Name}
@@ -25,8 +26,8 @@ pub record IsNumFit (l : NumLit) : Type 0 where
 
 -- a bound of a magnitude of at most 10^25
 pub record IsSmallBound (n : ℤ) : Type 0 where
-  pub low : pos 0 ≤ℤ (n +ℤ pos (10 ^ 25))
-  pub high : n ≤ℤ pos (10 ^ 25)
+  pub low : pos 0 ≤ℤ (n +ℤ pos largest_bound)
+  pub high : n ≤ℤ pos largest_bound
 
 -- ---- sorts
 -- no name, or one of the sort

@@ -1,11 +1,12 @@
 -- The limits that a ground problem may pass.
 use Rattle.std.specs.Prelude.{ℕ}
+use Rattle.hp_tree.specs.Limits.{most_names}
 use Rattle.hp_tree.specs.declared.limit.Limit.{Limit}
 use Rattle.hp_tree.specs.declared.limit.Which.TheVariants.{Names, Coefficient}
 
 -- more names than there may be
 abbrev pub many_names : Limit
-many_names = record { which = Names; most = 4000; item = 0 }
+many_names = record { which = Names; most = most_names; item = 0 }
 
 -- a number that is too wide, first in this item
 abbrev pub coefficient : ℕ → Limit

@@ -1,6 +1,7 @@
 //! The component of one literal among others.
 ghost use Rattle.std.specs.Prelude.{◌≡◌, ◌≤◌, IfOk, length};
 ghost use Rattle.std.specs.List.{All};
+ghost use Rattle.hp_tree.specs.Limits.{most_rows};
 ghost use Rattle.hp_defs.specs.Names.{sorts};
 ghost use Rattle.hp_lit.specs.Fit.{IsBuilt};
 ghost use Rattle.hp_path.specs.Kinds.{num_lits};
@@ -35,7 +36,7 @@ pub fn component_of_last(
     lits: &[Lit],
 ) -> Result<List<u32>, AllocError>
     requires built { All (IsBuilt (sorts names.now)) lits.now }
-    requires few { length lits.now ≤ 100000 }
+    requires few { length lits.now ≤ most_rows }
     ensures { IfOk result (IsComponentOfLast (num_lits lits.now) (num_places 1 lits.now)) }
 {
     let parts = parts_of(alloc, lits)?;

@@ -6,6 +6,7 @@
 //! it would take the product of the times of the components, and here it takes their sum.
 ghost use Rattle.std.specs.Prelude.{◌≡◌, ◌≤◌, ◌+◌, IfOk, length, map, false, replicate};
 ghost use Rattle.std.specs.List.{All, filter};
+ghost use Rattle.hp_tree.specs.Limits.{most_rows};
 ghost use Rattle.hp_defs.specs.Names.{sorts};
 ghost use Rattle.hp_lit.specs.declared.literal.Lit.TheVariants.{Num};
 ghost use Rattle.hp_descent.specs.Columns.{AreNumFit};
@@ -123,7 +124,7 @@ fn decide_component(
     pace: Pace,
 ) -> Result<Side, AllocError>
     requires over { All (IsNumOver (sorts names.now)) parts.now.nums }
-    requires few { length parts.now.nums ≤ 100000 }
+    requires few { length parts.now.nums ≤ most_rows }
     requires stand { Stands lits.now (map Num parts.now.nums) parts.now.num_places }
     requires labels { AreLabels labels.now parts.now.nums }
     ensures decided { IfOk result (DecidesPart (sorts names.now) pace lits.now parts.now labels.now label) }
@@ -150,7 +151,7 @@ fn decide_apart(
     pace: Pace,
 ) -> Result<Apart, AllocError>
     requires over { All (IsNumOver (sorts names.now)) parts.now.nums }
-    requires few { length parts.now.nums ≤ 100000 }
+    requires few { length parts.now.nums ≤ most_rows }
     requires stand { Stands lits.now (map Num parts.now.nums) parts.now.num_places }
     requires labels { AreLabels labels.now parts.now.nums }
     ensures { IfOk result (DecidesNums (sorts names.now) pace lits.now parts.now.nums parts.now.num_places) }
@@ -186,7 +187,7 @@ pub fn decide_nums(
     pace: Pace,
 ) -> Result<Apart, AllocError>
     requires built { All (IsBuilt (sorts names.now)) lits.now }
-    requires few { length lits.now ≤ 100000 }
+    requires few { length lits.now ≤ most_rows }
     requires parts { AreParts lits.now parts.now }
     ensures { IfOk result (DecidesNums (sorts names.now) pace lits.now (num_lits lits.now) (num_places 1 lits.now)) }
 {

@@ -1,6 +1,7 @@
 //! The decision that speaks of chains: all literals over fractions at once, by dimension descent.
 ghost use Rattle.std.specs.Prelude.{◌≤◌, length};
 ghost use Rattle.std.specs.List.{All};
+ghost use Rattle.hp_tree.specs.Limits.{most_rows};
 ghost use Rattle.hp_defs.specs.Names.{sorts};
 ghost use Rattle.hp_diff.specs.Rows.{IsPoint};
 ghost use Rattle.hp_lit.specs.Fit.{IsBuilt};
@@ -41,7 +42,7 @@ pub enum Decision {
 /// 10^25.
 pub fn decide(alloc: Global, names: &Names, lits: &[Lit]) -> Result<Decision, DescentErr>
     requires built { All (IsBuilt (sorts names.now)) lits.now }
-    requires few { length lits.now ≤ 100000 }
+    requires few { length lits.now ≤ most_rows }
     ensures { Decides (sorts names.now) lits.now result }
 {
     let parts = parts_of(alloc, lits)?;
@@ -60,7 +61,7 @@ fn decide_over(
     point: List<NameValue>,
 ) -> Result<Decision, DescentErr>
     requires built { All (IsBuilt (sorts names.now)) lits.now }
-    requires few { length lits.now ≤ 100000 }
+    requires few { length lits.now ≤ most_rows }
     requires parts { AreParts lits.now parts.now }
     requires point { IsPoint (idx_lits lits.now) point }
     ensures { Decides (sorts names.now) lits.now result }

@@ -1,6 +1,7 @@
 //! Labels of names: names that literals tie together, directly or through others, have one label.
 ghost use Rattle.std.specs.Prelude.{◌≡◌, ◌<◌, ◌≤◌, IfOk, length, map};
 ghost use Rattle.std.specs.List.{All, Contains};
+ghost use Rattle.hp_tree.specs.Limits.{most_names};
 ghost use Rattle.hp_defs.specs.Names.{sorts};
 ghost use Rattle.hp_lit.specs.Fit.{IsNumOver};
 ghost use Rattle.hp_path.specs.inner.Components.{AreLabels, AreNamesOf, IsCoarser, IsOneLabel, first_label, merged};
@@ -24,7 +25,7 @@ pub fn first_label(labels: &List<u32>, parts: &[Part]) -> u32
 
 /// A label of its own for each of `count` names.
 fn own_labels(alloc: Global, count: u64) -> Result<List<u32>, AllocError>
-    requires { count ≤ 4000 }
+    requires { count ≤ most_names }
     ensures count { IfOk result (λ labels. length labels ≡ count) }
     ensures below { IfOk result (λ labels. All (λ label. label < count) labels) }
 {

@@ -1,5 +1,6 @@
 //! The literals of a path by their sorts, each with its number along the path.
 ghost use Rattle.std.specs.Prelude.{◌≡◌, ◌≤◌, IfOk, length};
+ghost use Rattle.hp_tree.specs.Limits.{most_rows};
 ghost use Rattle.hp_path.specs.inner.Parted.{AreParts};
 
 use hp_lit::{IdxLit, Lit, NumLit, Part};
@@ -41,7 +42,7 @@ pub fn copy_num(alloc: Global, lit: &NumLit) -> Result<NumLit, AllocError>
 
 /// The literals of a path by their sorts. Pointer literals are left out.
 pub fn parts_of(alloc: Global, lits: &[Lit]) -> Result<Parts, AllocError>
-    requires few { length lits.now ≤ 100000 }
+    requires few { length lits.now ≤ most_rows }
     ensures { IfOk result (λ parts. AreParts lits.now parts) }
 {
     let mut rows = List::new(alloc);

@@ -2,6 +2,7 @@
 //! components where that gives up.
 ghost use Rattle.std.specs.Prelude.{◌≤◌, IfOk, length};
 ghost use Rattle.std.specs.List.{All};
+ghost use Rattle.hp_tree.specs.Limits.{most_rows};
 ghost use Rattle.hp_defs.specs.Names.{sorts};
 ghost use Rattle.hp_lit.specs.Fit.{IsBuilt};
 ghost use Rattle.hp_path.specs.Decided.{DecidesAt, DecidesPatiently, DecidesQuickly};
@@ -36,7 +37,7 @@ pub enum Quick {
 /// that could be decided are contradictory. `Err` says that memory was wanting. It asks for literals as `decide` does.
 pub fn decide_quickly(alloc: Global, names: &Names, lits: &[Lit]) -> Result<Quick, AllocError>
     requires built { All (IsBuilt (sorts names.now)) lits.now }
-    requires few { length lits.now ≤ 100000 }
+    requires few { length lits.now ≤ most_rows }
     ensures { IfOk result (DecidesQuickly (sorts names.now) lits.now) }
 {
     decide_at(alloc, names, lits, Pace::Quick)
@@ -46,7 +47,7 @@ pub fn decide_quickly(alloc: Global, names: &Names, lits: &[Lit]) -> Result<Quic
 /// exponential in its literals. `Unknown` names those over whose literals a number of the descent passes 2^127 - 1.
 pub fn decide_patiently(alloc: Global, names: &Names, lits: &[Lit]) -> Result<Quick, AllocError>
     requires built { All (IsBuilt (sorts names.now)) lits.now }
-    requires few { length lits.now ≤ 100000 }
+    requires few { length lits.now ≤ most_rows }
     ensures { IfOk result (DecidesPatiently (sorts names.now) lits.now) }
 {
     decide_at(alloc, names, lits, Pace::Patient)
@@ -55,7 +56,7 @@ pub fn decide_patiently(alloc: Global, names: &Names, lits: &[Lit]) -> Result<Qu
 /// Decides literals at this pace.
 fn decide_at(alloc: Global, names: &Names, lits: &[Lit], pace: Pace) -> Result<Quick, AllocError>
     requires built { All (IsBuilt (sorts names.now)) lits.now }
-    requires few { length lits.now ≤ 100000 }
+    requires few { length lits.now ≤ most_rows }
     ensures { IfOk result (DecidesAt (sorts names.now) pace lits.now) }
 {
     let parts = parts_of(alloc, lits)?;

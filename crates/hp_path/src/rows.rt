@@ -1,6 +1,7 @@
 //! The literals over whole numbers of a path, decided as rows.
 ghost use Rattle.std.specs.Prelude.{◌≤◌, IfOk, length};
 ghost use Rattle.std.specs.List.{All};
+ghost use Rattle.hp_tree.specs.Limits.{most_rows};
 ghost use Rattle.hp_defs.specs.Names.{sorts};
 ghost use Rattle.hp_lit.specs.Fit.{IsBuilt};
 ghost use Rattle.hp_path.specs.inner.Parted.{AreParts};
@@ -22,7 +23,7 @@ pub fn decide_rows(
     parts: &Parts,
 ) -> Result<DiffAnswer, AllocError>
     requires built { All (IsBuilt (sorts names.now)) lits.now }
-    requires few { length lits.now ≤ 100000 }
+    requires few { length lits.now ≤ most_rows }
     requires parts { AreParts lits.now parts.now }
     ensures { IfOk result (λ answer. DecidesRows lits.now answer) }
 {

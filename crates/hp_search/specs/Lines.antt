@@ -3,6 +3,7 @@ use Rattle.std.specs.Prelude.{◌≡◌, ℕ, ◌^◌, ◌-◌, ◌≤◌, List,
 use Rattle.std.specs.List.{All}
 use Rattle.hp_math.specs.Rational.{whole}
 use Rattle.hp_num.specs.declared.wide.Wide.{Wide}
+use Rattle.hp_tree.specs.Limits.{largest_value}
 use Rattle.hp_tree.specs.declared.problem.Sort.{Sort}
 use Rattle.hp_lit.specs.declared.literal.IdxLit.{IdxLit}
 use Rattle.hp_lit.specs.declared.literal.Lit.{Lit}
@@ -31,8 +32,8 @@ AreBuilt sorts lits = All (IsBuilt sorts) lits
 -- ---- truth by whole numbers
 -- a magnitude of at most 10^37
 pub record IsSmallIndex (n : ℤ) : Type 0 where
-  pub low : pos 0 ≤ℤ (n +ℤ pos (10 ^ 37))
-  pub high : n ≤ℤ pos (10 ^ 37)
+  pub low : pos 0 ≤ℤ (n +ℤ pos largest_value)
+  pub high : n ≤ℤ pos largest_value
 
 -- the values of the two names keep the row
 abbrev pub Keeps : IdxLit → ℤ → ℤ → Type 0

@@ -1,6 +1,7 @@
 //! The literals of a path, decided together with those of lines of one literal.
 ghost use Rattle.std.specs.Prelude.{◌≡◌, ◌≤◌, IfOk, length, true};
 ghost use Rattle.std.specs.List.{All};
+ghost use Rattle.hp_tree.specs.Limits.{most_lines};
 ghost use Rattle.hp_defs.specs.Names.{sorts};
 ghost use Rattle.hp_leaf.specs.Tree.{place_lits};
 ghost use Rattle.hp_search.specs.Lines.{AreBuilt};
@@ -84,7 +85,7 @@ fn decide_alone(
     suspects: List<u32>,
 ) -> Result<Ahead, AllocError>
     requires built { All (λ line. AreBuilt (sorts g.now.names) line.lits) g.now.lines }
-    requires path { length path.now ≤ 50000 }
+    requires path { length path.now ≤ most_lines }
     ensures { IfOk result (FindsAhead (sorts g.now.names) (place_lits g.now.lines path.now)) }
 {
     let lits = lits_of(alloc, g, path)?;
@@ -104,8 +105,8 @@ fn decide_beside(
     path: &[Choice],
 ) -> Result<Ahead, AllocError>
     requires built { All (λ line. AreBuilt (sorts g.now.names) line.lits) g.now.lines }
-    requires others { length others.now ≤ 50000 }
-    requires path { length path.now ≤ 50000 }
+    requires others { length others.now ≤ most_lines }
+    requires path { length path.now ≤ most_lines }
     ensures { IfOk result (FindsAhead (sorts g.now.names) (place_lits g.now.lines path.now)) }
 {
     let mut lits = lits_of(alloc, g, path)?;
@@ -134,9 +135,9 @@ pub fn decide_ahead(
     path: &[Choice],
 ) -> Result<Ahead, AllocError>
     requires built { All (λ line. AreBuilt (sorts g.now.names) line.lits) g.now.lines }
-    requires lines { length g.now.lines ≤ 50000 }
+    requires lines { length g.now.lines ≤ most_lines }
     requires singles { AreSinglesOf g.now.lines singles.now }
-    requires path { length path.now ≤ 50000 }
+    requires path { length path.now ≤ most_lines }
     ensures { IfOk result (FindsAhead (sorts g.now.names) (place_lits g.now.lines path.now)) }
 {
     let mut lits = lits_of(alloc, g, path)?;

@@ -7,6 +7,7 @@
 //! the strain is one over the choices of the path that belong to it.
 ghost use Rattle.std.specs.Prelude.{◌≡◌, ◌≤◌, [], IfOk, IfErr, IfSome, length};
 ghost use Rattle.std.specs.List.{All};
+ghost use Rattle.hp_tree.specs.Limits.{most_lines};
 ghost use Rattle.hp_defs.specs.Names.{sorts};
 ghost use Rattle.hp_path.specs.Decided.{AreOfChain, AreValuesFor};
 ghost use Rattle.hp_search.specs.Lines.{AreBuilt};
@@ -54,7 +55,7 @@ enum QuickLook {
 /// The last literal of each line that has one: for a clause, one of the last atom of its head, or of its guard where the
 /// head has no atom.
 fn last_choices(alloc: Global, g: &Ground) -> Result<List<Choice>, AllocError>
-    requires lines { length g.now.lines ≤ 50000 }
+    requires lines { length g.now.lines ≤ most_lines }
     ensures { IfOk result (λ last. length last ≤ length g.now.lines) }
 {
     let mut last = List::new(alloc);
@@ -74,7 +75,7 @@ fn last_choices(alloc: Global, g: &Ground) -> Result<List<Choice>, AllocError>
 /// clauses with guards need no tree where their heads agree.
 pub fn guess_model(alloc: Global, g: &Ground) -> Result<Option<Valuation>, AllocError>
     requires built { All (λ line. AreBuilt (sorts g.now.names) line.lits) g.now.lines }
-    requires lines { length g.now.lines ≤ 50000 }
+    requires lines { length g.now.lines ≤ most_lines }
     ensures { IfOk result (λ guess. IfSome guess (λ v. IsModelAt (sorts g.now.names) g.now.lines [] v)) }
 {
     let last = last_choices(alloc, g)?;
@@ -96,9 +97,9 @@ fn look_quickly(
     path: &[Choice],
 ) -> Result<QuickLook, AllocError>
     requires built { All (λ line. AreBuilt (sorts g.now.names) line.lits) g.now.lines }
-    requires lines { length g.now.lines ≤ 50000 }
+    requires lines { length g.now.lines ≤ most_lines }
     requires singles { AreSinglesOf g.now.lines singles.now }
-    requires path { length path.now ≤ 50000 }
+    requires path { length path.now ≤ most_lines }
     ensures { IfOk result (Looks (sorts g.now.names) g.now.lines path.now) }
 {
     match decide_ahead(alloc, g, singles, path)? {
@@ -144,8 +145,8 @@ fn strained(alloc: Global, path: &[Choice], row: RowStrain) -> SearchErr
 /// Decides the literals of the path by dimension descent, and looks for a line that the values of its chain leave false.
 fn look_exactly(alloc: Global, g: &Ground, path: &[Choice]) -> Result<Seen, SearchErr>
     requires built { All (λ line. AreBuilt (sorts g.now.names) line.lits) g.now.lines }
-    requires lines { length g.now.lines ≤ 50000 }
-    requires path { length path.now ≤ 50000 }
+    requires lines { length g.now.lines ≤ most_lines }
+    requires path { length path.now ≤ most_lines }
     ensures seen { IfOk result (SeesChain (sorts g.now.names) g.now.lines path.now) }
     ensures strained { IfErr result (IsCauseAt g.now.lines path.now) }
 {
@@ -170,8 +171,8 @@ fn look_exactly(alloc: Global, g: &Ground, path: &[Choice]) -> Result<Seen, Sear
 /// As `look_exactly`, with a chain only where `exact`.
 fn look_wholly(alloc: Global, g: &Ground, path: &[Choice], exact: bool) -> Result<Seen, SearchErr>
     requires built { All (λ line. AreBuilt (sorts g.now.names) line.lits) g.now.lines }
-    requires lines { length g.now.lines ≤ 50000 }
-    requires path { length path.now ≤ 50000 }
+    requires lines { length g.now.lines ≤ most_lines }
+    requires path { length path.now ≤ most_lines }
     ensures seen { IfOk result (Sees (sorts g.now.names) g.now.lines path.now exact) }
     ensures strained { IfErr result (IsCauseAt g.now.lines path.now) }
 {
@@ -197,7 +198,7 @@ fn strain_over(
     choice: Choice,
 ) -> Result<Option<RowStrain>, AllocError>
     requires built { All (λ line. AreBuilt (sorts g.now.names) line.lits) g.now.lines }
-    requires path { length path.now ≤ 50000 }
+    requires path { length path.now ≤ most_lines }
     ensures { IfOk result (λ strain. IfSome strain (IsStrainedAt g.now.lines path.now)) }
 {
     let lits = lits_of(alloc, g, path)?;
@@ -238,8 +239,8 @@ fn look_within(
     exact: bool,
 ) -> Result<Seen, SearchErr>
     requires built { All (λ line. AreBuilt (sorts g.now.names) line.lits) g.now.lines }
-    requires lines { length g.now.lines ≤ 50000 }
-    requires path { length path.now ≤ 50000 }
+    requires lines { length g.now.lines ≤ most_lines }
+    requires path { length path.now ≤ most_lines }
     requires part { IsPartOf part path.now }
     ensures seen { IfOk result (Sees (sorts g.now.names) g.now.lines path.now exact) }
     ensures strained { IfErr result (IsCauseWithin g.now.lines path.now) }
@@ -261,7 +262,7 @@ fn part_beside(
     choice: Choice,
 ) -> Result<List<Choice>, AllocError>
     requires built { All (λ line. AreBuilt (sorts g.now.names) line.lits) g.now.lines }
-    requires path { length path.now ≤ 50000 }
+    requires path { length path.now ≤ most_lines }
     ensures { IfOk result (λ part. IsPartOf part path.now) }
 {
     let mut lits = lits_of(alloc, g, path)?;
@@ -280,9 +281,9 @@ pub fn look(
     exact: bool,
 ) -> Result<Seen, SearchErr>
     requires built { All (λ line. AreBuilt (sorts g.now.names) line.lits) g.now.lines }
-    requires lines { length g.now.lines ≤ 50000 }
+    requires lines { length g.now.lines ≤ most_lines }
     requires singles { AreSinglesOf g.now.lines singles.now }
-    requires path { length path.now ≤ 50000 }
+    requires path { length path.now ≤ most_lines }
     ensures seen { IfOk result (Sees (sorts g.now.names) g.now.lines path.now exact) }
     ensures strained { IfErr result (IsCauseWithin g.now.lines path.now) }
 {

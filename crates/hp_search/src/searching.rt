@@ -2,6 +2,7 @@
 //! leaf. One node is made a turn, so the number of turns is the number of nodes.
 ghost use Rattle.std.specs.Prelude.{◌≤◌, IfOk, IfErr, length};
 ghost use Rattle.std.specs.List.{All};
+ghost use Rattle.hp_tree.specs.Limits.{most_lines};
 ghost use Rattle.hp_defs.specs.Names.{sorts};
 ghost use Rattle.hp_leaf.specs.Tree.{limit};
 ghost use Rattle.hp_search.specs.Lines.{AreBuilt};
@@ -82,7 +83,7 @@ fn open_place(
     exact: bool,
 ) -> Result<Turn, SearchErr>
     requires built { All (λ line. AreBuilt (sorts g.now.names) line.lits) g.now.lines }
-    requires lines { length g.now.lines ≤ 50000 }
+    requires lines { length g.now.lines ≤ most_lines }
     requires singles { AreSinglesOf g.now.lines singles.now }
     requires at { IsAt (sorts g.now.names) g.now.lines tree.old path.old }
     ensures turned { IfOk result (Turned (sorts g.now.names) g.now.lines exact tree.old tree.new path.new) }
@@ -119,7 +120,7 @@ fn search_places(
 ) -> Result<Found, SearchErr>
     requires most { 1 ≤ most }
     requires built { All (λ line. AreBuilt (sorts g.now.names) line.lits) g.now.lines }
-    requires lines { length g.now.lines ≤ 50000 }
+    requires lines { length g.now.lines ≤ most_lines }
     requires singles { AreSinglesOf g.now.lines singles.now }
     ensures found { IfOk result (IsFound (sorts g.now.names) g.now.lines most exact) }
     ensures cause { IfErr result (IsCause (sorts g.now.names) g.now.lines) }
@@ -164,7 +165,7 @@ fn search_places(
 /// pointers aren't searched yet.
 pub fn search(alloc: Global, g: &Ground, most: u64, exact: bool) -> Result<Found, SearchErr>
     requires most { 1 ≤ most }
-    requires lines { length g.now.lines ≤ 50000 }
+    requires lines { length g.now.lines ≤ most_lines }
     requires built { All (λ line. AreBuilt (sorts g.now.names) line.lits) g.now.lines }
     ensures found { IfOk result (IsFound (sorts g.now.names) g.now.lines most exact) }
     ensures cause { IfErr result (IsCause (sorts g.now.names) g.now.lines) }

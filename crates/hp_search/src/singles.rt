@@ -1,6 +1,7 @@
 //! Lines of one literal. Each of them has to be true, so their literals are decided together.
 ghost use Rattle.std.specs.Prelude.{◌≡◌, ◌≤◌, ◌<◌, ◌∷◌, [], ◌++◌, IfOk, IfSome, length, map};
 ghost use Rattle.std.specs.List.{All};
+ghost use Rattle.hp_tree.specs.Limits.{most_lines};
 ghost use Rattle.hp_defs.specs.Names.{sorts};
 ghost use Rattle.hp_leaf.specs.Leaf.{IsValid};
 ghost use Rattle.hp_leaf.specs.Tree.{IsClosed, place_lits};
@@ -17,7 +18,7 @@ use std::alloc::{AllocError, Global};
 
 /// The choices of the only literal of each line that has one.
 pub fn singles_of(alloc: Global, g: &Ground) -> Result<List<Choice>, AllocError>
-    requires lines { length g.now.lines ≤ 50000 }
+    requires lines { length g.now.lines ≤ most_lines }
     ensures { IfOk result (λ singles. AreSinglesOf g.now.lines singles) }
 {
     let mut singles = List::new(alloc);
@@ -127,7 +128,7 @@ pub fn close_singles(
 ) -> Result<Option<List<Node>>, AllocError>
     requires built { All (λ line. AreBuilt (sorts g.now.names) line.lits) g.now.lines }
     requires singles { AreSinglesOf g.now.lines singles.now }
-    requires lines { length g.now.lines ≤ 50000 }
+    requires lines { length g.now.lines ≤ most_lines }
     ensures { IfOk result (λ closed. IfSome closed (λ tree. IsClosed g.now.lines tree)) }
 {
     let lits = lits_of(alloc, g, singles)?;

@@ -2,6 +2,7 @@
 ghost use Rattle.std.specs.Prelude.{◌≡◌, ◌+◌, ◌≤◌, IfOk, IfSome, IsSome, Ok, length, true, false};
 ghost use Rattle.std.specs.List.{All};
 ghost use Rattle.hp_math.specs.Rational.{whole};
+ghost use Rattle.hp_tree.specs.Limits.{most_lines};
 ghost use Rattle.hp_lit.specs.Truth.{IdxIsTrue, LineIsTrue, optional_value};
 ghost use Rattle.hp_diff.specs.Rows.{IsSmallWhole};
 ghost use Rattle.hp_search.specs.Lines.{AreReadable, HasSmallSides, IsFalseLine, IsReadable, IsSmallIndex, IsWideChoice, Judges, JudgesLine, JudgesLit, Keeps};
@@ -194,7 +195,7 @@ fn is_shorter(line: &Line, best: Option<Candidate>) -> bool
 /// The first of the shortest lines that the values leave false. A sum that is too wide is told only where no line is false.
 fn shortest_false(g: &Ground, v: &Valuation) -> Result<Verdict, AllocError>
     requires readable { All (AreReadable v.now.values) g.now.lines }
-    requires lines { length g.now.lines ≤ 50000 }
+    requires lines { length g.now.lines ≤ most_lines }
     ensures { IfOk result (Judges g.now.lines v.now.values) }
 {
     let mut best: Option<Candidate> = None;
@@ -241,7 +242,7 @@ fn verdict_of(best: Option<Candidate>, wide_sum: Option<WideSum>) -> Verdict
 /// in its line has more than 32 bits.
 pub fn first_false(g: &Ground, v: &Valuation, suspects: &[u32]) -> Result<Verdict, AllocError>
     requires readable { All (AreReadable v.now.values) g.now.lines }
-    requires lines { length g.now.lines ≤ 50000 }
+    requires lines { length g.now.lines ≤ most_lines }
     ensures { IfOk result (Judges g.now.lines v.now.values) }
 {
     for number in suspects {

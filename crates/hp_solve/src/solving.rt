@@ -1,6 +1,7 @@
 //! From a problem to its ground lines, from these to what a search finds, and from that to the evidence.
 
 ghost use Rattle.std.specs.Prelude.{◌≡◌, ◌<◌, ◌≤◌, ◌^◌, IfOk, false, ℕ, length, map};
+ghost use Rattle.hp_tree.specs.Limits.{most_clauses};
 ghost use Rattle.hp_defs.specs.Names.{constant_name, sorts};
 ghost use Rattle.hp_search.specs.Search.{IsCause, IsFound};
 ghost use Rattle.hp_ground.specs.Laws.{structure_of};
@@ -113,7 +114,7 @@ fn unfinished(p: &Problem, g: &Ground, error: SearchErr) -> Solved
 pub fn solve(alloc: Global, p: &Problem, most: u64) -> Solved
     requires most { 1 ≤ most }
     requires declarations { length p.now.decls < 2 ^ 28 }
-    requires clauses { length p.now.clauses ≤ 2000 }
+    requires clauses { length p.now.clauses ≤ most_clauses }
     requires light { IsLight p.now }
     ensures { SolvedAs p.now most result }
 {

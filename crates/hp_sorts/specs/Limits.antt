@@ -1,6 +1,7 @@
 -- The limits of a problem's text: its clauses, the variables of each clause, the arguments of each function.
 use Rattle.std.specs.Prelude.{ℕ, Bool, false, if◌then◌else◌, Option, Some, None, length, nat_lt}
 use Rattle.std.specs.List.{list_any}
+use Rattle.hp_tree.specs.Limits.{most_clauses}
 use Rattle.hp_tree.specs.declared.limit.Limit.{Limit}
 use Rattle.hp_tree.specs.declared.limit.Which.{Which}
 use Rattle.hp_tree.specs.declared.limit.Which.TheVariants.{Clauses, Variables, Arguments}
@@ -22,6 +23,6 @@ has_many_arguments (Fun name args value level) = nat_lt 4 (length args)
 -- the first limit that is passed
 abbrev pub passed : Problem → Option Limit
 passed p =
-    if nat_lt 2000 (length p.clauses) then Some (limit Clauses 2000)
+    if nat_lt most_clauses (length p.clauses) then Some (limit Clauses most_clauses)
     else (if list_any has_many_variables p.clauses then Some (limit Variables 6)
     else (if list_any has_many_arguments p.decls then Some (limit Arguments 4) else None))
