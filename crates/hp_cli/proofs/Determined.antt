@@ -9,7 +9,7 @@ use Rattle.hp_sorts.specs.Faults.{sort_fault}
 use Rattle.hp_sorts.specs.Limits.{passed}
 use Rattle.hp_ground.specs.Lines.{limit_of}
 use Rattle.hp_cli.specs.NotBuilt.{IsBuilt, IsNotBuilt}
-use Rattle.hp_cli.specs.Size.{most_bytes}
+use Rattle.hp_tree.specs.Limits.{most_bytes}
 use Rattle.hp_cli.specs.declared.answer.Status.{Status}
 use Rattle.hp_cli.specs.declared.answer.Status.TheVariants.{Spelling, Sort, Limit, Overflow, Sat, Spent, NotBuilt, Unsat}
 use Rattle.hp_cli.specs.declared.words.Task.{Task}

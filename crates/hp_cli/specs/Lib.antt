@@ -1,4 +1,3 @@
-pub mod Size
 pub mod Words
 pub mod Transfer
 pub mod Refusals

@@ -27,7 +27,7 @@ use Rattle.hp_search.specs.Search.{IsHonestStrain}
 use Rattle.hp_ground.specs.Lines.{IsGroundOf, limit_of}
 use Rattle.hp_cert.specs.Overflow.{overflow_text}
 use Rattle.hp_cli.specs.NotBuilt.{IsBuilt, IsNotBuilt}
-use Rattle.hp_cli.specs.Size.{most_bytes}
+use Rattle.hp_tree.specs.Limits.{most_bytes}
 use Rattle.hp_cli.specs.Refusals.{line, limit_text, not_built_text, sort_text, spelling_text}
 
 -- ---- how far an input comes

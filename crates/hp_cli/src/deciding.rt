@@ -7,15 +7,14 @@ ghost use Rattle.hp_model.specs.Written.{structure_text};
 ghost use Rattle.hp_grammar.specs.Spells.{IsFault};
 ghost use Rattle.hp_cli.specs.Answer.{Does};
 ghost use Rattle.hp_cli.specs.Refusals.{line};
-ghost use Rattle.hp_cli.specs.Size.{most_bytes};
+ghost use Rattle.hp_tree.specs.Limits.{most_bytes};
 ghost use Rattle.hp_cli.specs.Verdicts.{IsCounted, IsRead};
 ghost use Rattle.hp_cli.specs.Words.{IsTask};
 
 use crate::answer::Status;
-use crate::limits::MOST_BYTES;
 use crate::refusals;
 use crate::words::Task;
-use hp_tree::{Limit, Problem, Which};
+use hp_tree::{Limit, MOST_BYTES, Problem, Which};
 use hp_cert::{Refutation, body, overflow_text, write};
 use hp_grammar::ReadErr;
 use hp_model::{Structure, write_structure};

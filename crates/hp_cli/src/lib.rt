@@ -4,7 +4,6 @@
 mod answer;
 mod deciding;
 mod laws;
-mod limits;
 mod refusals;
 mod running;
 mod transfer;

@@ -7,7 +7,7 @@ ghost use Rattle.hp_cli.specs.declared.answer.Status.{Status};
 ghost use Rattle.hp_tree.specs.declared.problem.Problem.{Problem};
 ghost use Rattle.hp_cli.specs.declared.words.Task.{Task};
 ghost use Rattle.hp_cli.specs.Answer.{Answers, code, Fits, IsSettledCode, IsSolving, IsWhole, Stands, Told, Wrote};
-ghost use Rattle.hp_cli.specs.Size.{most_bytes};
+ghost use Rattle.hp_tree.specs.Limits.{most_bytes};
 ghost use Rattle.hp_cli.specs.Transfer.{HasEnded, TakesFew};
 ghost use Rattle.hp_cli.specs.Verdicts.{InScope};
 ghost use Rattle.hp_cli.specs.Words.{Asks, IsTask, IsUsage};

@@ -11,13 +11,10 @@ ghost use Rattle.hp_ground.specs.Answers.{GroundFound, LinedAs};
 use crate::consts::{Consts, ConstsRead, consts_of, names_of};
 use crate::forms::clauses_are_ground;
 use crate::lines::lines_of;
-use hp_tree::{Clause, Decl, Limit, Problem, Which};
+use hp_tree::{Clause, Decl, Limit, MOST_NAMES, Problem, Which};
 use hp_defs::Ground;
 use hp_lit::GroundErr;
 use std::alloc::Global;
-
-/// The most names of a ground problem.
-const MOST_NAMES: usize = 4_000;
 
 /// The ground problem of a problem over constants of sort idx and num without functions and variables: its constants,
 /// no definitions, and a line for each clause in order, with the literals of the negated guard atoms and then of the

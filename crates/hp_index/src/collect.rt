@@ -6,13 +6,10 @@ ghost use Rattle.std.specs.Prelude.{◌≡◌, ◌<◌, ◌≤◌, ◌^◌, ◌+
 ghost use Rattle.hp_lit.specs.Words.{number};
 ghost use Rattle.hp_index.specs.Forms.{IsSmall, IsSmallShape, is_index_shape, largest, minus_shape, named_shape, neg_shape, number_shape, plus_shape, shape_form, shape_of, shifted, weight};
 
-use hp_tree::Term;
+use hp_tree::{LARGEST_BOUND, Term};
 use hp_lit::Name;
 use hp_names::NameIndex;
 use hp_num::Frac;
-
-/// The largest magnitude of a number that is collected.
-const LARGEST: i128 = 10_000_000_000_000_000_000_000_000;
 
 /// A name plus a whole number; without a name, the number alone.
 #[derive(Clone, Copy)]
@@ -62,7 +59,7 @@ impl Shape {
 pub fn small(n: i128) -> Option<i128>
     ensures { MatchOption result (IsSmall n → ⊥) (λ k. (k ≡ n) × IsSmall n) }
 {
-    if -LARGEST <= n && n <= LARGEST {
+    if -LARGEST_BOUND <= n && n <= LARGEST_BOUND {
         Some(n)
     } else {
         None

@@ -7,14 +7,11 @@ ghost use Rattle.hp_defs.specs.Names.{sorts};
 ghost use Rattle.hp_lit.specs.Fit.{IsSmallBound};
 ghost use Rattle.hp_lit.specs.Fit.{IsBuilt, IsIdxSide, IsNumOver, IsRowOver};
 
-use hp_tree::Sort;
+use hp_tree::{LARGEST_BOUND, Sort};
 use hp_defs::Names;
 use hp_lit::{IdxLit, Lit, Name, NumLit, Part};
 use hp_descent::are_fit;
 use std::slice;
-
-/// The largest magnitude of a bound on whole numbers.
-const LARGEST: i128 = 10_000_000_000_000_000_000_000_000;
 
 /// Whether each literal is one that can be decided: a literal over whole numbers whose names have sort idx and whose bound
 /// has a magnitude of at most 10^25, or one over fractions whose names have sort num and rise strictly, with no number
@@ -52,7 +49,7 @@ fn is_row(names: &Names, row: &IdxLit) -> bool
 fn is_small(bound: i128) -> bool
     ensures { result ≡ true ↔ IsSmallBound bound }
 {
-    -LARGEST <= bound && bound <= LARGEST
+    -LARGEST_BOUND <= bound && bound <= LARGEST_BOUND
 }
 
 /// Whether there is no name, or one of sort idx.

@@ -1,4 +1,17 @@
-//! What is said where a problem passes a limit. The tests are made by the crates that have the limits.
+//! The limits of texts and of ground problems, and what is said where one is passed. The tests are made by the crates that
+//! count.
+
+/// The most bytes of a problem's text.
+pub const MOST_BYTES: usize = 1_048_576;
+
+/// The most clauses of a problem.
+pub const MOST_CLAUSES: usize = 2_000;
+
+/// The most names of a ground problem: constants and definitions together.
+pub const MOST_NAMES: usize = 4_000;
+
+/// The largest magnitude of a bound on a difference of whole numbers.
+pub const LARGEST_BOUND: i128 = 10_000_000_000_000_000_000_000_000;
 
 /// What there is too much of.
 #[derive(Clone, Copy, Debug, PartialEq, Eq)]
