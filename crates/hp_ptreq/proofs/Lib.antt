@@ -1,0 +1,8 @@
+pub mod Mentions
+pub mod Finding
+pub mod Trees
+pub mod Joining
+pub mod Labels
+pub mod Searching
+pub mod Paths
+pub mod Points

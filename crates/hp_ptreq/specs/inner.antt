@@ -1,0 +1,4 @@
+pub mod Nodes
+pub mod Classes
+pub mod Ways
+pub mod Built
