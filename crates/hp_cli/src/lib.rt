@@ -11,6 +11,5 @@ mod words;
 
 pub use answer::Status;
 pub use laws::one_answer;
-pub use limits::MOST_BYTES;
 pub use running::run;
 pub use words::Task;

@@ -1,7 +1,7 @@
 -- The limits of a problem's text: its clauses, the variables of each clause, the arguments of each function.
 use Rattle.std.specs.Prelude.{ℕ, Bool, false, if◌then◌else◌, Option, Some, None, length, nat_lt}
 use Rattle.std.specs.List.{list_any}
-use Rattle.hp_tree.specs.Limits.{most_clauses}
+use Rattle.hp_tree.specs.Limits.{most_clauses, most_variables, most_arguments}
 use Rattle.hp_tree.specs.declared.limit.Limit.{Limit}
 use Rattle.hp_tree.specs.declared.limit.Which.{Which}
 use Rattle.hp_tree.specs.declared.limit.Which.TheVariants.{Clauses, Variables, Arguments}
@@ -14,15 +14,15 @@ abbrev pub limit : Which → ℕ → Limit
 limit which most = record { which = which; most = most; item = 0 }
 
 abbrev pub has_many_variables : Clause → Bool
-has_many_variables clause = nat_lt 6 (length clause.vars)
+has_many_variables clause = nat_lt most_variables (length clause.vars)
 
 abbrev pub has_many_arguments : Decl → Bool
 has_many_arguments (Const name sort) = false
-has_many_arguments (Fun name args value level) = nat_lt 4 (length args)
+has_many_arguments (Fun name args value level) = nat_lt most_arguments (length args)
 
 -- the first limit that is passed
 abbrev pub passed : Problem → Option Limit
 passed p =
     if nat_lt most_clauses (length p.clauses) then Some (limit Clauses most_clauses)
-    else (if list_any has_many_variables p.clauses then Some (limit Variables 6)
-    else (if list_any has_many_arguments p.decls then Some (limit Arguments 4) else None))
+    else (if list_any has_many_variables p.clauses then Some (limit Variables most_variables)
+    else (if list_any has_many_arguments p.decls then Some (limit Arguments most_arguments) else None))

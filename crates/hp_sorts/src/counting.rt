@@ -4,23 +4,16 @@ ghost use Rattle.std.specs.Prelude.{◌≡◌};
 ghost use Rattle.std.specs.List.{list_any};
 ghost use Rattle.hp_sorts.specs.Limits.{passed, limit, has_many_variables, has_many_arguments};
 
-use hp_tree::{Clause, Decl, Limit, Problem, Which};
-
-/// The most clauses of a text.
-const MOST_CLAUSES: u64 = 2_000;
-
-/// The most variables of a clause.
-const MOST_VARIABLES: u64 = 6;
-
-/// The most arguments of a declared function.
-const MOST_ARGUMENTS: u64 = 4;
+use hp_tree::{
+    Clause, Decl, Limit, MOST_ARGUMENTS, MOST_CLAUSES, MOST_VARIABLES, Problem, Which,
+};
 
 /// The first limit of a text that the problem passes: 2,000 clauses, then 6 variables of a clause, then 4 arguments of
 /// a declared function. `None` where it passes none. The `item` is 0. Takes no memory.
 pub fn counts(p: &Problem) -> Option<Limit>
     ensures { result ≡ passed p.now }
 {
-    if p.clauses.len() as u64 > MOST_CLAUSES {
+    if p.clauses.len() > MOST_CLAUSES {
         return Some(limit(Which::Clauses, MOST_CLAUSES));
     }
     if some_has_many_variables(p.clauses.as_slice()) {
@@ -33,12 +26,12 @@ pub fn counts(p: &Problem) -> Option<Limit>
 }
 
 /// A limit that no single item passes.
-fn limit(which: Which, most: u64) -> Limit
+fn limit(which: Which, most: usize) -> Limit
     ensures { result ≡ limit which most }
 {
     Limit {
         which,
-        most,
+        most: most as u64,
         item: 0,
     }
 }
@@ -49,7 +42,7 @@ fn some_has_many_variables(clauses: &[Clause]) -> bool
 {
     clauses
         .iter()
-        .any(|clause| clause.vars.len() as u64 > MOST_VARIABLES)
+        .any(|clause| clause.vars.len() > MOST_VARIABLES)
 }
 
 /// Whether a function is declared with more than 4 arguments.
@@ -65,6 +58,6 @@ fn has_many_arguments(decl: &Decl) -> bool
 {
     match decl {
         Decl::Const { .. } => false,
-        Decl::Fun { args, .. } => args.len() as u64 > MOST_ARGUMENTS,
+        Decl::Fun { args, .. } => args.len() > MOST_ARGUMENTS,
     }
 }

@@ -8,6 +8,14 @@ most_bytes = 1048576
 abbrev pub most_clauses : ℕ
 most_clauses = 2000
 
+-- of a clause
+abbrev pub most_variables : ℕ
+most_variables = 6
+
+-- of a declared function
+abbrev pub most_arguments : ℕ
+most_arguments = 4
+
 -- ---- ground problems
 -- constants and definitions together
 abbrev pub most_names : ℕ

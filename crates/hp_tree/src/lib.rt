@@ -8,7 +8,10 @@ mod problem;
 mod sides;
 mod term;
 
-pub use limit::{LARGEST_BOUND, Limit, MOST_BYTES, MOST_CLAUSES, MOST_NAMES, Which};
+pub use limit::{
+    LARGEST_BOUND, Limit, MOST_ARGUMENTS, MOST_BYTES, MOST_CLAUSES, MOST_NAMES, MOST_VARIABLES,
+    Which,
+};
 pub use problem::{Atom, Clause, Cmp, Decl, Problem, Sort, Var};
 pub use sides::{Side, negated, taken};
 pub use term::Term;

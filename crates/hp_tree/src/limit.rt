@@ -7,6 +7,12 @@ pub const MOST_BYTES: usize = 1_048_576;
 /// The most clauses of a problem.
 pub const MOST_CLAUSES: usize = 2_000;
 
+/// The most variables of a clause.
+pub const MOST_VARIABLES: usize = 6;
+
+/// The most arguments of a declared function.
+pub const MOST_ARGUMENTS: usize = 4;
+
 /// The most names of a ground problem: constants and definitions together.
 pub const MOST_NAMES: usize = 4_000;
 
