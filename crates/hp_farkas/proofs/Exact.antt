@@ -1,9 +1,8 @@
 -- A sum in which no operation was refused is the exact one.
-use Rattle.std.proofs.Common.{◌≡◌, ℕ, inl, inr, ℤ, pos, ◌+ℤ◌, ◌*ℤ◌, refl, sym, ◌∙◌, ap, arith, List, [], ◌∷◌, Result, Ok, Err, true, false, cond, nat_eq}
+use Rattle.std.proofs.Common.{◌≡◌, ℕ, inl, inr, ℤ, pos, ◌+ℤ◌, ◌*ℤ◌, refl, sym, ◌∙◌, ap, arith, List, [], ◌∷◌, Ok, true, false, cond, nat_eq}
 use Rattle.std.proofs.lemmas.Bool.{eqb-true}
 use Rattle.std.proofs.lemmas.Int.{ints}
 use Rattle.hp_math.proofs.Whole.{*ℤ-+ℤ}
-use Rattle.hp_num.specs.declared.wide.Wide.{Wide}
 use Rattle.hp_num.specs.Wide.{times_of, plus_of, ◌>>=◌}
 use Rattle.hp_num.proofs.Bits.{times_gave, plus_gave}
 use Rattle.hp_num.proofs.Given.{came}

@@ -1,5 +1,5 @@
 -- Computations that may be refused, and what their values have where they are not.
-use Rattle.std.proofs.Common.{Result, Ok, Err, ℕ, Bool, true, false, cond, ◌^◌, ◌*◌, ◌/◌, nat_lt, List, [], ◌∷◌, unsigned_abs}
+use Rattle.std.proofs.Common.{Result, Ok, Err, ℕ, Bool, true, false, cond, ◌^◌, ◌*◌, ◌/◌, nat_lt, List, [], ◌∷◌}
 use Rattle.hp_math.specs.Rational.{ℚ}
 use Rattle.hp_num.specs.Wide.{add_of, mul_of, times_of, ◌>>=◌}
 use Rattle.hp_num.specs.declared.wide.Wide.{Wide as TooWide}

@@ -1,5 +1,5 @@
 -- Computations that may be refused, step by step.
-use Rattle.std.proofs.Common.{◌≡◌, List, [], ◌++◌, Result, Ok, Err, IfOk, refl, sym, ap, subst, append_assoc}
+use Rattle.std.proofs.Common.{◌≡◌, List, [], ◌++◌, Result, Ok, Err, refl, sym, ap, subst, append_assoc}
 use Rattle.hp_num.specs.declared.wide.Wide.{Wide as TooWide}
 use Rattle.hp_num.specs.Wide.{◌>>=◌}
 use Rattle.hp_lit.specs.declared.refusal.Refusal.{Refusal}

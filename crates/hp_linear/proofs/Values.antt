@@ -1,5 +1,5 @@
 -- What the operations on forms do to the value of a form.
-use Rattle.std.proofs.Common.{◌≡◌, Bool, true, false, cond, nat_lt, pos, unsigned_abs, List, [], ◌∷◌, ◌++◌, map, Ok, refl, sym, ap, ◌∙◌, arith}
+use Rattle.std.proofs.Common.{◌≡◌, Bool, true, false, cond, nat_lt, pos, List, [], ◌∷◌, ◌++◌, map, Ok, refl, sym, ap, ◌∙◌, arith}
 use Rattle.std.proofs.lemmas.Bool.{ltb-false}
 use Rattle.hp_math.specs.Rational.{ℚ, whole, ◌+ℚ◌, ◌-ℚ◌, ◌*ℚ◌, neg_ℚ, eq_ℚ}
 use Rattle.hp_math.proofs.Field.{+ℚ_zero, +ℚ_assoc, *ℚ-+ℚ}

@@ -1,5 +1,5 @@
 -- Linear forms: fractions of copies of names, in the order of the names, and a fraction; and the form of a term.
-use Rattle.std.specs.Prelude.{ℕ, Bool, true, false, ◌&&◌, List, [], ◌∷◌, map, Option, Some, None, is_some, Ok, unsigned_abs, pos, if◌then◌else◌, nat_lt}
+use Rattle.std.specs.Prelude.{Bool, true, false, ◌&&◌, List, [], ◌∷◌, map, Option, Some, None, is_some, Ok, pos, if◌then◌else◌, nat_lt}
 use Rattle.hp_math.specs.Rational.{ℚ, whole, neg_ℚ, eq_ℚ}
 use Rattle.hp_num.specs.Wide.{add_of, mul_of, ◌>>=◌}
 use Rattle.hp_tree.specs.declared.term.Term.{Term, fold-Term}

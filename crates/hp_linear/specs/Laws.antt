@@ -1,5 +1,5 @@
 -- What ties forms to the values of terms, and literals to the truth of atoms.
-use Rattle.std.specs.Prelude.{◌≡◌, ◌↔◌, ℕ, List, true, Ok}
+use Rattle.std.specs.Prelude.{◌≡◌, ◌↔◌, List, true, Ok}
 use Rattle.hp_tree.specs.declared.term.Term.{Term}
 use Rattle.hp_tree.specs.declared.problem.Atom.{Atom}
 use Rattle.hp_lit.specs.declared.literal.Lit.{Lit}

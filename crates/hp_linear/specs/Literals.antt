@@ -1,5 +1,5 @@
 -- The literals of an atom over linear terms.
-use Rattle.std.specs.Prelude.{ℕ, List, [], ◌∷◌, neg_ℤ, Ok}
+use Rattle.std.specs.Prelude.{List, [], ◌∷◌, neg_ℤ, Ok}
 use Rattle.hp_num.specs.Wide.{◌>>=◌}
 use Rattle.hp_tree.specs.declared.problem.Cmp.{Cmp}
 use Rattle.hp_tree.specs.declared.problem.Cmp.TheVariants.{Le, Lt, Eq, Ne, Ge, Gt}

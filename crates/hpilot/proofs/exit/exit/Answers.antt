@@ -1,4 +1,4 @@
-use Rattle.std.proofs.Common.{inl, refl, sym, subst, List, map}
+use Rattle.std.proofs.Common.{inl, refl, sym, subst, map}
 use Rattle.std.specs.Prelude.{string_bytes}
 use Rattle.hp_cli.specs.declared.answer.Status.TheVariants.{Memory}
 use Rattle.hp_cli.specs.Words.{Asks, IsUsage}
