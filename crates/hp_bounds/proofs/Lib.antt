@@ -1,4 +1,3 @@
-pub mod Fractions
 pub mod Loads
 pub mod Tokens
 pub mod Items

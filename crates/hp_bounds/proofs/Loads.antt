@@ -10,7 +10,7 @@ use Rattle.hp_grammar.specs.declared.symbol.Symbol.TheVariants.{Word as word, Na
 use Rattle.hp_grammar.specs.Tree.{number_of, null, named, apply, add, sub, neg, scale}
 use Rattle.hp_grammar.specs.Grammar.{SpellsNumber, SpellsTerm, SpellsPart, SpellsFactor, whole, fraction, part, minus, sum, difference, number, product, factor, single, call, nothing, group}
 use Rattle.hp_index.specs.Forms.{weight, weight_step}
-use Rattle.hp_bounds.proofs.Fractions.{numerator_most}
+use Rattle.hp_math.proofs.Lowest.{numerator_most}
 
 -- ---- what tokens carry
 abbrev pub value : Token → ℕ

@@ -18,7 +18,7 @@ ghost use Rattle.hp_path.specs.inner.Parted.{AreParts, num_places};
 ghost use Rattle.hp_path.specs.inner.Sides.{AreOfLabel, DecidesNums, DecidesPart, Tells};
 
 use crate::labels::{first_label, labels_of};
-use crate::parting::{Parts, copy_num};
+use crate::parting::Parts;
 use crate::placing::push_values;
 use hp_defs::Names;
 use hp_lit::{Lit, NameValue, NumLit, Share};
@@ -78,7 +78,7 @@ pub fn component_of(
     for at in 0..parts.nums.len() {
         let lit = parts.nums.get(at);
         if first_label(labels, lit.parts.as_slice()) == label {
-            nums.push(copy_num(alloc, lit)?)?;
+            nums.push(lit.copy(alloc)?)?;
             places.push(*parts.num_places.get(at))?;
         }
     }

@@ -3,7 +3,7 @@ ghost use Rattle.std.specs.Prelude.{◌≡◌, ◌≤◌, IfOk, length};
 ghost use Rattle.hp_tree.specs.Limits.{most_rows};
 ghost use Rattle.hp_path.specs.inner.Parted.{AreParts};
 
-use hp_lit::{IdxLit, Lit, NumLit, Part};
+use hp_lit::{IdxLit, Lit, NumLit};
 use hp_num::List;
 use std::alloc::{AllocError, Global};
 
@@ -15,29 +15,6 @@ pub struct Parts {
     pub row_places: List<u32>,
     pub nums: List<NumLit>,
     pub num_places: List<u32>,
-}
-
-/// An equal list of summands.
-fn copy_parts(alloc: Global, parts: &[Part]) -> Result<List<Part>, AllocError>
-    ensures { IfOk result (λ copied. copied ≡ parts.now) }
-{
-    let mut copied = List::new(alloc);
-    for part in parts {
-        copied.push(*part)?;
-    }
-    Ok(copied)
-}
-
-/// An equal literal.
-pub fn copy_num(alloc: Global, lit: &NumLit) -> Result<NumLit, AllocError>
-    ensures { IfOk result (λ copied. copied ≡ lit.now) }
-{
-    let parts = copy_parts(alloc, lit.parts.as_slice())?;
-    Ok(NumLit {
-        rel: lit.rel,
-        parts,
-        bound: lit.bound,
-    })
 }
 
 /// The literals of a path by their sorts. Pointer literals are left out.
@@ -52,7 +29,7 @@ pub fn parts_of(alloc: Global, lits: &[Lit]) -> Result<Parts, AllocError>
     for at in 0..lits.len() {
         match &lits[at] {
             Lit::Num(lit) => {
-                nums.push(copy_num(alloc, lit)?)?;
+                nums.push(lit.copy(alloc)?)?;
                 num_places.push(at as u32 + 1)?;
             }
             Lit::Idx(row) => {

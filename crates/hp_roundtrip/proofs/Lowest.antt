@@ -8,7 +8,7 @@ use Rattle.hp_text.specs.declared.token.Kind.TheVariants as kinds
 use Rattle.hp_grammar.specs.declared.symbol.Symbol.{Symbol as Token}
 use Rattle.hp_grammar.specs.declared.symbol.Symbol.TheVariants.{Word as word, Numeral as numeral}
 use Rattle.hp_grammar.specs.Grammar.{SpellsNumber, whole, fraction}
-use Rattle.hp_bounds.proofs.Fractions.{copies, denominator_most, numerator_below}
+use Rattle.hp_math.proofs.Lowest.{copies, denominator_most, numerator_below}
 use Rattle.hp_roundtrip.specs.inner.Printed.{frac_tokens, whole_tokens}
 
 -- a number without a sign, and its parts

@@ -4,35 +4,9 @@ ghost use Rattle.hp_leaf.specs.Tree.{lit_at, place_lits};
 
 use hp_defs::Ground;
 
-use hp_lit::{Choice, IdxLit, Lit, NumLit};
+use hp_lit::{Choice, IdxLit, Lit};
 use hp_num::List;
 use std::alloc::{AllocError, Global};
-
-/// A copy of a literal.
-fn copy_of(alloc: Global, lit: &Lit) -> Result<Lit, AllocError>
-    ensures { IfOk result (λ copy. copy ≡ lit.now) }
-{
-    match lit {
-        Lit::Idx(row) => Ok(Lit::Idx(*row)),
-        Lit::Ptr(pair) => Ok(Lit::Ptr(*pair)),
-        Lit::Num(num) => Ok(Lit::Num(copy_of_num(alloc, num)?)),
-    }
-}
-
-/// A copy of a literal over fractions.
-fn copy_of_num(alloc: Global, num: &NumLit) -> Result<NumLit, AllocError>
-    ensures { IfOk result (λ copy. copy ≡ num.now) }
-{
-    let mut parts = List::new(alloc);
-    for part in num.parts.as_slice() {
-        parts.push(*part)?;
-    }
-    Ok(NumLit {
-        rel: num.rel,
-        parts,
-        bound: num.bound,
-    })
-}
 
 /// A copy of the literal of a choice; `0 <= 0` where there is none.
 fn lit_at(alloc: Global, g: &Ground, choice: Choice) -> Result<Lit, AllocError>
@@ -44,7 +18,7 @@ fn lit_at(alloc: Global, g: &Ground, choice: Choice) -> Result<Lit, AllocError>
         None => Ok(nothing()),
         Some(line) => match line.lits.as_slice().get(lit) {
             None => Ok(nothing()),
-            Some(lit) => copy_of(alloc, lit),
+            Some(lit) => lit.copy(alloc),
         },
     }
 }

@@ -118,22 +118,11 @@ fn look_quickly(
     }
 }
 
-/// A copy of a path.
-fn copy_of(alloc: Global, path: &[Choice]) -> Result<List<Choice>, AllocError>
-    ensures { IfOk result (λ copy. copy ≡ path.now) }
-{
-    let mut copy = List::new(alloc);
-    for choice in path {
-        copy.push(*choice)?;
-    }
-    Ok(copy)
-}
-
 /// A strain over the literals of a path, or want of memory.
 fn strained(alloc: Global, path: &[Choice], row: RowStrain) -> SearchErr
     ensures { Rattle.hp_search.specs.Search.IsStrainedAs path.now row result }
 {
-    match copy_of(alloc, path) {
+    match List::from_slice(alloc, path) {
         Ok(path) => SearchErr::Strain(Strain {
             place: Place::Path(path),
             row,

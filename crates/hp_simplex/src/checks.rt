@@ -87,7 +87,7 @@ fn compares(rel: Rel, left: Frac, right: Frac) -> bool
 fn sum_of(values: &[NameValue], parts: &[Part]) -> Option<Frac>
     ensures { IfSome result (λ sum. AddTo values.now parts.now sum) }
 {
-    let mut sum = fraction_of(Whole::new(0));
+    let mut sum = Frac::whole(Whole::new(0));
     let mut left = parts.len();
     while left > 0 {
         left -= 1;
@@ -114,14 +114,7 @@ fn fraction(number: i128) -> Option<Frac>
     if number == i128::MIN {
         return None;
     }
-    Some(fraction_of(Whole::new(number)))
-}
-
-/// The number as a fraction.
-fn fraction_of(number: Whole) -> Frac
-    ensures { result ≡ whole number }
-{
-    Frac::new(number.value(), 1)
+    Some(Frac::whole(Whole::new(number)))
 }
 
 /// The value of a name. The names of the values rise, or else a value may not be found.
@@ -140,23 +133,7 @@ fn copies(alloc: Global, lits: &[NumLit]) -> Result<List<Lit>, AllocError>
 {
     let mut copies = List::new(alloc);
     for at in 0..lits.len() {
-        let lit = &lits[at];
-        copies.push(Lit::Num(NumLit {
-            rel: lit.rel,
-            parts: copy_parts(alloc, lit.parts.as_slice())?,
-            bound: lit.bound,
-        }))?;
+        copies.push(Lit::Num(lits[at].copy(alloc)?))?;
     }
     Ok(copies)
-}
-
-/// The same parts.
-fn copy_parts(alloc: Global, parts: &[Part]) -> Result<List<Part>, AllocError>
-    ensures { IfOk result (λ copy. copy ≡ parts.now) }
-{
-    let mut copy = List::new(alloc);
-    for part in parts {
-        copy.push(*part)?;
-    }
-    Ok(copy)
 }

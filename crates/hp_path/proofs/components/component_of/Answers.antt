@@ -2,7 +2,7 @@ use Rattle.std.proofs.Common.{◌≡◌, ◌<◌, sym, ◌∙◌, ap, length, su
 use Rattle.hp_path.specs.inner.Components.{first_label}
 use Rattle.hp_path.proofs.Gathering.{has_place, nums_with, nums_without, places_more, places_without}
 use Rattle.hp_path.proofs.components.component_of.Goals as goal
-use Rattle.hp_path.proofs.components.component_of.Goals.{then-first_label-label+in_ok-copy_num+in_ok-push+in_ok-push-2, else-first_label-label}
+use Rattle.hp_path.proofs.components.component_of.Goals.{then-first_label-label+in_ok-copy+in_ok-push+in_ok-push-2, else-first_label-label}
 
 pub loop-at-preserved : goal.loop-at-preserved
 loop-at-preserved c =
@@ -14,10 +14,10 @@ loop-at-preserved c =
     let own = ap (first_label labels) (sym c.as_slice.ensures) in
     let l : i < length places = subst (λ n. i < n) (c.len-at-end.ensures ∙ sym c.requires.places) c.loop-at-test.true in
     elim c.if-first_label-label.branch [
-      | then-first_label-label+in_ok-copy_num+in_ok-push+in_ok-push-2 w ↦
+      | then-first_label-label+in_ok-copy+in_ok-push+in_ok-push-2 w ↦
           let e : first_label labels x.parts ≡ c.args.label = own ∙ sym c.first_label.ensures ∙ w.if-first_label-label.true in
           record {
-            nums = nums_with labels c.args.label nums places i x 0 c.get-lit.ensures c.loop-at.nums c.if-first_label-label.nums e (w.nums-is ∙ w.in_ok-push.ensures.ok ∙ ap (λ y. c.loop-at.nums ++ y ∷ []) w.in_ok-copy_num.ensures) c.loop-at.invariant.nums;
+            nums = nums_with labels c.args.label nums places i x 0 c.get-lit.ensures c.loop-at.nums c.if-first_label-label.nums e (w.nums-is ∙ w.in_ok-push.ensures.ok ∙ ap (λ y. c.loop-at.nums ++ y ∷ []) w.in_ok-copy.ensures) c.loop-at.invariant.nums;
             places = places_more labels c.args.label nums places i x w.get.result.now c.get-lit.ensures c.loop-at.places c.if-first_label-label.places w.get.ensures e (w.places-is ∙ w.in_ok-push-2.ensures.ok) c.loop-at.invariant.places;
           }
       | else-first_label-label w ↦
