@@ -8,9 +8,9 @@ ghost use Rattle.std.specs.List.{join_by, flat_map};
 ghost use Rattle.hp_tree.specs.declared.problem.Decl.TheVariants.{Const, Fun};
 ghost use Rattle.hp_ast.specs.Printing.{frac_text, opening, closing, enclosed, encloses_sum, encloses_product, text_at, term_text, relation_text, atom_text, guard_text, head_text, sort_text, var_text, word_text, clause_text, decl_text, line, heading_text, clauses_text, problem_text};
 
-use hp_tree::{Atom, Clause, Cmp, Decl, Problem, Sort, Var, Term};
 use hp_num::{Frac, Text};
 use hp_text::{put_text, put_whole};
+use hp_tree::{Atom, Clause, Cmp, Decl, Problem, Sort, Term, Var};
 use std::alloc::{AllocError, Global};
 
 /// The text of a problem: the line of its profile, then one line for each declaration and then for each clause, in

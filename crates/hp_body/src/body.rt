@@ -15,10 +15,10 @@ use crate::stack::Stack;
 use crate::state::{Frame, Front, Mode};
 use crate::stop::Stop;
 use crate::term::word;
-use hp_tree::{Atom, Cmp, Term};
 use hp_grammar::{Symbol, same};
 use hp_num::List;
 use hp_text::Kind;
+use hp_tree::{Atom, Cmp, Term};
 use std::alloc::Global;
 use std::mem;
 

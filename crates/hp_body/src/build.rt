@@ -5,8 +5,8 @@ ghost use Rattle.std.specs.Prelude.{◌≡◌, IfOk, Option, Some, None};
 ghost use Rattle.hp_grammar.specs.Tree.{number_of, null, named, apply, add, sub, neg, scale};
 ghost use Rattle.hp_body.specs.Machine.{scaled};
 
-use hp_tree::Term;
 use hp_num::{Frac, List, Text};
+use hp_tree::Term;
 use sqlite_items::Boxed;
 use std::alloc::{AllocError, Global};
 

@@ -13,8 +13,8 @@ use crate::build::{
     difference_term, name_term, negative_term, null_term, number_term, scale_by, sum_term,
 };
 use crate::stop::Stop;
-use hp_tree::Term;
 use hp_num::{Frac, List, Text};
+use hp_tree::Term;
 use sqlite_items::Boxed;
 use std::alloc::{AllocError, Global};
 use std::mem;

@@ -9,9 +9,9 @@ use crate::build::call_term;
 use crate::stack::Stack;
 use crate::state::{Frame, Front, Mode};
 use crate::stop::Stop;
-use hp_tree::Term;
 use hp_grammar::same;
 use hp_text::Kind;
+use hp_tree::Term;
 use sqlite_items::Boxed;
 use std::alloc::Global;
 

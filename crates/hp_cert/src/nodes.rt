@@ -7,8 +7,8 @@ ghost use Rattle.std.specs.Prelude.{◌≡◌, ◌++◌, OnOk};
 ghost use Rattle.std.specs.List.{flat_map};
 ghost use Rattle.hp_cert.specs.Trees.{leaf_text, link_text, node_text, share_text, step_text};
 
-use hp_lit::{Share, Step};
 use hp_leaf::{LeafProof, Node};
+use hp_lit::{Share, Step};
 use hp_num::Text;
 use hp_text::{put_text, put_whole};
 use std::alloc::AllocError;

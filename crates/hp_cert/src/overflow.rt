@@ -5,8 +5,8 @@ ghost use Rattle.std.specs.Prelude.{◌≡◌, ◌++◌, IfOk, OnOk};
 ghost use Rattle.std.specs.List.{flat_map};
 ghost use Rattle.hp_cert.specs.Overflow.{at_text, choice_text, form_text, operation_text, overflow_text, place_text, row_text, wide_text};
 
-use hp_lit::Choice;
 use hp_descent::{At, Form, Place, Strain};
+use hp_lit::Choice;
 use hp_num::{Op, Text, Wide};
 use hp_text::{put_text, put_whole};
 use std::alloc::{AllocError, Global};

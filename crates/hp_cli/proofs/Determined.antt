@@ -1,5 +1,5 @@
 -- The answers of an input exclude one another: each has a cause that the others lack.
-use Rattle.std.proofs.Common.{◌≡◌, inl, ℕ, List, None, Some, ◌+◌, ◌<◌, ◌≤◌, length, refl, sym, ap, subst, ◌∙◌, arith}
+use Rattle.std.proofs.Common.{◌≡◌, inl, ℕ, List, None, Some, ◌≤◌, length, refl, sym, ap, subst, ◌∙◌, arith}
 use Rattle.std.specs.declared.option.Option.{Option}
 use Rattle.hp_ast.specs.Printing.{problem_text}
 use Rattle.hp_tree.specs.declared.problem.Problem.{Problem}

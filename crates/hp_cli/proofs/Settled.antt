@@ -1,5 +1,5 @@
 -- A text in scope is answered by a verdict: every refusal has a cause that it lacks.
-use Rattle.std.proofs.Common.{◌≡◌, inl, inr, ℕ, List, [], ◌∷◌, None, Some, length, ◌≤◌, sym, ap, subst, ◌∙◌, arith}
+use Rattle.std.proofs.Common.{◌≡◌, inl, inr, ℕ, List, [], ◌∷◌, None, Some, sym, ap, subst, ◌∙◌, arith}
 use Rattle.std.specs.Prelude.{codes}
 use Rattle.hp_tree.specs.declared.problem.Problem.{Problem}
 use Rattle.hp_read.proofs.BytesLaws.{no_fault, one_problem}

@@ -14,7 +14,6 @@ ghost use Rattle.hp_cli.specs.Words.{IsTask};
 use crate::answer::Status;
 use crate::refusals;
 use crate::words::Task;
-use hp_tree::{Limit, MOST_BYTES, Problem, Which};
 use hp_cert::{Refutation, body, overflow_text, write};
 use hp_grammar::ReadErr;
 use hp_model::{Structure, write_structure};
@@ -24,6 +23,7 @@ use hp_roundtrip::reprint;
 use hp_solve::{Solved, solve};
 use hp_sorts::{SortErr, check, counts};
 use hp_text::put_whole;
+use hp_tree::{Limit, MOST_BYTES, Problem, Which};
 use std::alloc::{AllocError, Global};
 
 /// A whole text and its status.

@@ -4,11 +4,11 @@ ghost use Rattle.std.specs.Prelude.{◌≡◌, ◌++◌, IfOk};
 ghost use Rattle.std.specs.Fmt.{decimal};
 ghost use Rattle.hp_cli.specs.Refusals.{limit_text, not_built_text, sort_text, spelling_text};
 
-use hp_tree::{Limit, Which};
 use hp_grammar::ReadErr;
 use hp_num::Text;
 use hp_sorts::SortErr;
 use hp_text::put_whole;
+use hp_tree::{Limit, Which};
 use std::alloc::{AllocError, Global};
 
 /// A number between two texts.

@@ -7,8 +7,8 @@ ghost use Rattle.hp_tree.specs.Limits.{most_names};
 ghost use Rattle.hp_defs.specs.Names.{constant_name, sort_of_body, sorts, with_constant, with_signature};
 
 use hp_lit::{Body, Def, Line, Name};
-use hp_tree::Sort;
 use hp_num::{List, Text};
+use hp_tree::Sort;
 use std::alloc::{AllocError, Global};
 use std::marker::Model;
 

@@ -1,5 +1,5 @@
 -- What each call answers.
-use Rattle.std.specs.Prelude.{◌≡◌, ℕ, ◌+◌, ◌<◌, ◌≤◌, List, [], ◌++◌, length, map, Bool, ◌&&◌, Option, Some, None, Result, Ok, Err, nat_eq}
+use Rattle.std.specs.Prelude.{◌≡◌, ℕ, ◌+◌, List, [], ◌++◌, length, map, Bool, ◌&&◌, Option, Some, None, Result, Ok, Err, nat_eq}
 use Rattle.std.specs.List.{All, list_all}
 use Rattle.hp_tree.specs.declared.limit.Limit.{Limit}
 use Rattle.hp_tree.specs.declared.problem.Clause.{Clause}

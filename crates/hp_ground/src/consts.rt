@@ -8,10 +8,10 @@ ghost use Rattle.hp_model.specs.WellFormed.{constants};
 ghost use Rattle.hp_ground.specs.Lines.{as_constant};
 ghost use Rattle.hp_ground.specs.Answers.{AreNamesOf, ConstsFound};
 
-use hp_tree::{Decl, Sort};
 use hp_defs::Names;
 use hp_names::NameIndex;
 use hp_num::{List, Text};
+use hp_tree::{Decl, Sort};
 use std::alloc::{AllocError, Global};
 
 /// Constants in the order of their declarations: their names, and the sort of each at its place.

@@ -8,8 +8,8 @@ ghost use Rattle.hp_ground.specs.Answers.{clause_is_ground};
 ghost use Rattle.hp_ground.specs.Ground.{is_ground_atom, is_idx_atom, is_num_atom, is_of, names_have_sort, same_sort, sides_have_sort};
 
 use crate::consts::Consts;
-use hp_tree::{Atom, Clause, Sort, Term};
 use hp_index::is_index_atom;
+use hp_tree::{Atom, Clause, Sort, Term};
 
 /// Whether each clause has no variables and atoms of sort num or idx alone.
 #[tactic(auto, using(crate::proofs::Walking::all_rest))]

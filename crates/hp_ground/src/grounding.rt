@@ -11,9 +11,9 @@ ghost use Rattle.hp_ground.specs.Answers.{GroundFound, LinedAs};
 use crate::consts::{Consts, ConstsRead, consts_of, names_of};
 use crate::forms::clauses_are_ground;
 use crate::lines::lines_of;
-use hp_tree::{Clause, Decl, Limit, MOST_NAMES, Problem, Which};
 use hp_defs::Ground;
 use hp_lit::GroundErr;
+use hp_tree::{Clause, Decl, Limit, MOST_NAMES, Problem, Which};
 use std::alloc::Global;
 
 /// The ground problem of a problem over constants of sort idx and num without functions and variables: its constants,

@@ -11,12 +11,11 @@ ghost use Rattle.hp_ground.specs.Answers.{LineFound, LinesFound, LitsFound, Push
 
 use crate::consts::Consts;
 use crate::forms::is_num_atom;
-use hp_tree::{Atom, Clause, Limit, Which};
-use hp_lit::{GroundErr, Line, Lit, Origin, Refusal};
-use hp_linear::literals as num_literals;
-use hp_tree::Side;
 use hp_index::literals as idx_literals;
+use hp_linear::literals as num_literals;
+use hp_lit::{GroundErr, Line, Lit, Origin, Refusal};
 use hp_num::List;
+use hp_tree::{Atom, Clause, Limit, Side, Which};
 use std::alloc::Global;
 
 /// The limit on numbers, with the item that passes it.
@@ -62,12 +61,7 @@ pub fn lines_of(
 }
 
 /// The line of the clause of this number.
-fn line_of(
-    alloc: Global,
-    consts: &Consts,
-    number: u32,
-    clause: &Clause,
-) -> Result<Line, Refusal>
+fn line_of(alloc: Global, consts: &Consts, number: u32, clause: &Clause) -> Result<Line, Refusal>
     requires few { length consts.now.names ≤ most_names }
     requires sorts { length consts.now.sorts ≡ length consts.now.names }
     requires ground { IsGroundClause consts.now clause.now }

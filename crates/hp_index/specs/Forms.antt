@@ -1,5 +1,5 @@
 -- Index terms over words, and the word plus a whole number that each of them is.
-use Rattle.std.specs.Prelude.{ℕ, ◌+◌, ◌^◌, if◌then◌else◌, Bool, true, false, List, ℤ, pos, neg_ℤ, ◌+ℤ◌, ◌≤ℤ◌, Option, Some, None, unsigned_abs}
+use Rattle.std.specs.Prelude.{ℕ, ◌+◌, if◌then◌else◌, Bool, true, false, List, ℤ, pos, neg_ℤ, ◌+ℤ◌, ◌≤ℤ◌, Option, Some, None, unsigned_abs}
 use Rattle.hp_math.specs.Rational.{ℚ, is_whole}
 use Rattle.hp_tree.specs.Limits.{largest_bound}
 use Rattle.hp_lit.specs.declared.literal.Name.{Name}

@@ -8,11 +8,10 @@ ghost use Rattle.hp_index.specs.Literals.{IsLightAtom, are_index_sides, bound_of
 ghost use Rattle.hp_index.specs.Answers.{AtomPushed, Pushed};
 
 use crate::collect::{Form, Shape, collect, small};
-use hp_tree::{Atom, Cmp};
 use hp_lit::{IdxLit, Lit, Name, Refusal, Rel};
-use hp_tree::{Side, taken};
 use hp_names::NameIndex;
 use hp_num::List;
+use hp_tree::{Atom, Cmp, Side, taken};
 
 /// Adds the literals of an atom of sort idx behind those that are there: for `l <= r` in the head the bound of `l - r`, in
 /// the guard that of `r - l` less one; `>=` and `>` exchange the sides; for `l = r` in the head an exact bound, in the guard

@@ -6,10 +6,10 @@ ghost use Rattle.std.specs.Prelude.{◌≡◌, ◌<◌, ◌≤◌, ◌^◌, ◌+
 ghost use Rattle.hp_lit.specs.Words.{number};
 ghost use Rattle.hp_index.specs.Forms.{IsSmall, IsSmallShape, is_index_shape, largest, minus_shape, named_shape, neg_shape, number_shape, plus_shape, shape_form, shape_of, shifted, weight};
 
-use hp_tree::{LARGEST_BOUND, Term};
 use hp_lit::Name;
 use hp_names::NameIndex;
 use hp_num::Frac;
+use hp_tree::{LARGEST_BOUND, Term};
 
 /// A name plus a whole number; without a name, the number alone.
 #[derive(Clone, Copy)]

@@ -7,8 +7,8 @@ ghost use Rattle.hp_leaf.specs.Leaf.{IsValid};
 use crate::cycle::check_idx;
 use crate::pointer::check_ptr;
 use crate::tree::LeafProof;
-use hp_lit::Lit;
 use hp_farkas::check_num;
+use hp_lit::Lit;
 use hp_num::Wide;
 
 /// Whether a leaf is valid over the literals of its path, or the first product or sum on the way whose magnitude is

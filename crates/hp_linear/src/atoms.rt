@@ -8,11 +8,10 @@ ghost use Rattle.hp_linear.specs.Answers.{Answers, Pushed, Written};
 use crate::collect::collect;
 use crate::form::{Form, minus};
 use crate::wholes::row_of;
-use hp_tree::{Atom, Cmp};
 use hp_lit::{Lit, NumLit, Refusal, Rel};
-use hp_tree::{Side, taken};
 use hp_names::NameIndex;
 use hp_num::List;
+use hp_tree::{Atom, Cmp, Side, taken};
 use std::alloc::Global;
 
 /// Adds the literals of an atom of sort num behind those that are there: for `l <= r` in the head the literal `l <= r`, in

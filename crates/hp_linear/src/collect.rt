@@ -7,9 +7,9 @@ ghost use Rattle.hp_linear.specs.Forms.{lin_of};
 ghost use Rattle.hp_linear.specs.Answers.{Answers};
 
 use crate::form::{Form, minus, named, negated, number, plus, times, zero};
-use hp_tree::Term;
 use hp_lit::{Name, Refusal};
 use hp_names::NameIndex;
+use hp_tree::Term;
 use std::alloc::Global;
 
 /// The name that a word stands for, by its place among the words.

@@ -1,12 +1,8 @@
 -- The values that a structure gives to its constants and functions.
-use Rattle.std.specs.Prelude.{ℕ, zero, suc, List, [], ◌∷◌, Bool, true, false, ◌&&◌, ◌||◌, not, if◌then◌else◌, pos, codes, slice_index_or}
+use Rattle.std.specs.Prelude.{ℕ, zero, suc, List, [], ◌∷◌, true, if◌then◌else◌, pos, codes, slice_index_or}
 use Rattle.std.specs.Str.{bytes_eq}
-use Rattle.hp_math.specs.Rational.{ℚ, whole, ◌+ℚ◌, ◌-ℚ◌, ◌*ℚ◌, neg_ℚ, le_ℚ, lt_ℚ, eq_ℚ}
-use Rattle.hp_tree.specs.declared.term.Term.{Term, fold-Term}
-use Rattle.hp_tree.specs.declared.term.Term.TheOpen.{Term-F}
-use Rattle.hp_tree.specs.declared.problem.Atom.{Atom}
-use Rattle.hp_tree.specs.declared.problem.Cmp.{Cmp}
-use Rattle.hp_tree.specs.declared.problem.Cmp.TheVariants.{Le, Lt, Eq, Ne, Ge, Gt}
+use Rattle.hp_math.specs.Rational.{ℚ, whole}
+use Rattle.hp_tree.specs.declared.term.Term.{Term}
 use Rattle.hp_model.specs.declared.structure.ConstValue.{ConstValue}
 use Rattle.hp_model.specs.declared.structure.Row.{Row}
 use Rattle.hp_model.specs.declared.structure.Table.{Table}

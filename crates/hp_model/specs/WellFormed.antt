@@ -1,9 +1,7 @@
 -- A structure that fits a problem: it has exactly the constants of the problem, in the order of their declarations, with
 -- values of their sorts. It is said of problems that declare no functions, so a structure that fits has no tables.
-use Rattle.std.specs.Prelude.{◌≡◌, ℕ, ◌≤◌, List, [], ◌∷◌, Bool, true, ◌&&◌, pos, IsTrue}
-use Rattle.hp_math.specs.Rational.{ℚ, whole, is_whole, lt_ℚ, le_ℚ}
+use Rattle.std.specs.Prelude.{◌≡◌, ℕ, ◌≤◌, List, [], ◌∷◌, IsTrue}
 use Rattle.hp_tree.specs.declared.problem.Sort.{Sort}
-use Rattle.hp_tree.specs.declared.problem.Sort.TheVariants.{Num, Idx, Ptr}
 use Rattle.hp_tree.specs.declared.problem.Decl.{Decl}
 use Rattle.hp_tree.specs.declared.problem.Decl.TheVariants.{Const, Fun}
 use Rattle.hp_tree.specs.declared.problem.Problem.{Problem}

@@ -1,7 +1,7 @@
 //! The data of a structure. What it makes true is said in the definitions of values and truth.
 
-use hp_tree::{Atom, Term};
 use hp_num::{Frac, List, Text};
+use hp_tree::{Atom, Term};
 
 /// The value of a constant: a whole number for an index, a whole number below the universe for a pointer.
 #[derive(Drop)]

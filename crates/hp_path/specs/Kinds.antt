@@ -1,15 +1,10 @@
 -- The literals of each sort among literals of several sorts.
-use Rattle.std.specs.Prelude.{◌≡◌, List, [], ◌∷◌, Option, Some, None, slice_get}
-use Rattle.std.specs.List.{All}
-use Rattle.hp_tree.specs.declared.problem.Sort.{Sort}
+use Rattle.std.specs.Prelude.{List, [], ◌∷◌}
 use Rattle.hp_tree.specs.declared.problem.Sort.TheVariants as sort
-use Rattle.hp_lit.specs.declared.literal.Name.{Name}
 use Rattle.hp_lit.specs.declared.literal.NumLit.{NumLit}
 use Rattle.hp_lit.specs.declared.literal.IdxLit.{IdxLit}
 use Rattle.hp_lit.specs.declared.literal.Lit.{Lit}
 use Rattle.hp_lit.specs.declared.literal.Lit.TheVariants.{Num, Idx, Ptr}
-use Rattle.hp_lit.specs.Fit.{IsSmallBound}
-use Rattle.hp_lit.specs.Fit.{IsNumFit}
 
 -- the literals over fractions, in their order
 abbrev pub num_lits : List Lit → List NumLit

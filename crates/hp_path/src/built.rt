@@ -7,10 +7,10 @@ ghost use Rattle.hp_defs.specs.Names.{sorts};
 ghost use Rattle.hp_lit.specs.Fit.{IsSmallBound};
 ghost use Rattle.hp_lit.specs.Fit.{IsBuilt, IsIdxSide, IsNumOver, IsRowOver};
 
-use hp_tree::{LARGEST_BOUND, Sort};
 use hp_defs::Names;
-use hp_lit::{IdxLit, Lit, Name, NumLit, Part};
 use hp_descent::are_fit;
+use hp_lit::{IdxLit, Lit, Name, NumLit, Part};
+use hp_tree::{LARGEST_BOUND, Sort};
 use std::slice;
 
 /// Whether each literal is one that can be decided: a literal over whole numbers whose names have sort idx and whose bound

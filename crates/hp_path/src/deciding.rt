@@ -13,10 +13,10 @@ use crate::parting::{Parts, parts_of};
 use crate::placing::values_for;
 use crate::rows::decide_rows;
 use hp_defs::Names;
-use hp_lit::{Lit, NameValue, Valuation};
 use hp_descent::{ChainAnswer, DescentErr, decide_chain};
 use hp_diff::DiffAnswer;
 use hp_leaf::{LeafProof, renumber_shares};
+use hp_lit::{Lit, NameValue, Valuation};
 use hp_num::List;
 use std::alloc::Global;
 

@@ -7,7 +7,6 @@ ghost use Rattle.hp_lit.specs.Fit.{IsNumOver};
 ghost use Rattle.hp_path.specs.inner.Components.{AreLabels, AreNamesOf, IsCoarser, IsOneLabel, first_label, merged};
 
 use hp_defs::Names;
-
 use hp_lit::{NumLit, Part};
 use hp_num::List;
 use std::alloc::{AllocError, Global};

@@ -14,7 +14,6 @@ ghost use Rattle.hp_path.specs.Decided.{AreSmallIdx, AreValuesFor};
 ghost use Rattle.hp_path.specs.inner.Placed.{AreApart, AreSolving, IsValueOver, put_all};
 
 use hp_defs::Names;
-
 use hp_lit::{Lit, NameValue, Valuation};
 use hp_num::{Frac, List};
 use std::alloc::{AllocError, Global};

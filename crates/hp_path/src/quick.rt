@@ -12,9 +12,9 @@ use crate::parting::parts_of;
 use crate::placing::values_for;
 use crate::rows::decide_rows;
 use hp_defs::Names;
-use hp_lit::{Lit, Valuation};
 use hp_diff::DiffAnswer;
 use hp_leaf::LeafProof;
+use hp_lit::{Lit, Valuation};
 use hp_num::List;
 use std::alloc::{AllocError, Global};
 

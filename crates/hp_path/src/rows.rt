@@ -9,9 +9,9 @@ ghost use Rattle.hp_path.specs.inner.Sides.{DecidesRows};
 
 use crate::parting::Parts;
 use hp_defs::Names;
-use hp_lit::Lit;
 use hp_diff::{DiffAnswer, decide};
 use hp_leaf::renumber_steps;
+use hp_lit::Lit;
 use std::alloc::{AllocError, Global};
 
 /// Values that make the literals over whole numbers true, or a cycle of them in the numbers that literals have along the

@@ -25,7 +25,7 @@ use Rattle.hp_grammar.specs.declared.symbol.Symbol.TheVariants.{Word as word, Na
 use Rattle.hp_grammar.specs.Token.{same}
 use Rattle.hp_grammar.specs.Bodies.{SpellsBody}
 use Rattle.hp_grammar.specs.Declarations.{SpellsConstants, SpellsFunction, SpellsVariables}
-use Rattle.hp_grammar.specs.Problems.{SpellsDeclaration, constants, function, clause_of, SpellsItem, clause, query, SpellsProfile, missing, given, SpellsDeclarations, SpellsItems, problem_of, SpellsProblem, problem}
+use Rattle.hp_grammar.specs.Problems.{SpellsDeclaration, constants, function, clause_of, SpellsItem, clause, query, missing, given, SpellsItems, problem_of, SpellsProblem, problem}
 use Rattle.hp_grammar.specs.Problems as grammar
 use Rattle.hp_grammar.specs.Runs.{◌and_then◌, runs}
 use Rattle.hp_body.specs.BodyMachine.{begun, body_step, body_end}

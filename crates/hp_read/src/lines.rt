@@ -9,11 +9,11 @@ ghost use Rattle.hp_read.specs.Stages.{sort_of as sort_of_kind, constants_word, 
 ghost use Rattle.hp_read.specs.declared.lines.Function.TheVariants.{Argument};
 ghost use Rattle.hp_read.specs.declared.lines.Variables.TheVariants.{Colon};
 
-use hp_tree::{Decl, Sort, Var};
 use hp_body::Stop;
 use hp_grammar::{Symbol, same};
 use hp_num::{List, Text};
 use hp_text::Kind;
+use hp_tree::{Decl, Sort, Var};
 use std::alloc::{AllocError, Global};
 
 /// How far a line of constants is read, behind `const`.

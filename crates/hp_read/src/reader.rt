@@ -15,10 +15,10 @@ ghost use Rattle.hp_tree.specs.declared.problem.Problem.{Problem as Spelled};
 ghost use Rattle.hp_grammar.specs.declared.fault.ReadErr.TheVariants.{Memory};
 
 use crate::stage::Progress;
-use hp_tree::Problem;
 use hp_body::Stop;
 use hp_grammar::{Counts, ReadErr, symbol_at};
 use hp_text::{Cursor, Kind, Token};
+use hp_tree::Problem;
 use std::alloc::Global;
 
 /// Reads a problem from a text.

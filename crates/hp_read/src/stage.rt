@@ -13,11 +13,11 @@ ghost use Rattle.hp_grammar.specs.Problems.{clause_of};
 ghost use Rattle.hp_read.specs.Top.{started, ends_with as ends_with_kind, declaration as declaration_at, between as between_at, item_goes, at_start, at_profile, at_numbered, at_whole, at_clause, constants_stage, function_stage, variables_stage, body_stage, stage_step, top_step, at, top_end, with_item, with_declarations, is_whole as is_whole_stage};
 
 use crate::lines::{Constants, Function, Variables};
-use hp_tree::{Clause, Problem, Var};
 use hp_body::{Body, Place, Stop};
 use hp_grammar::{Symbol, same};
 use hp_num::List;
 use hp_text::Kind;
+use hp_tree::{Clause, Problem, Var};
 use std::alloc::Global;
 use std::mem;
 

@@ -15,10 +15,10 @@ ghost use Rattle.hp_grammar.specs.declared.fault.ReadErr.TheVariants.{Memory};
 use crate::reader::Reading;
 use crate::stage::Stage;
 use hp_ast::{put_clauses, put_heading};
-use hp_tree::Problem;
 use hp_grammar::ReadErr;
 use hp_num::{List, Text};
 use hp_text::{Cursor, Kind, Token};
+use hp_tree::Problem;
 use std::alloc::{AllocError, Global};
 
 /// The printed text of the problem that the bytes spell: the line of the profile, then one line for each declaration and then for each

@@ -1,5 +1,5 @@
 -- What constants alone declare, and that no fault of the declarations leaves their names distinct.
-use Rattle.std.proofs.Common.{◌≡◌, ℕ, ◌+◌, List, [], ◌∷◌, ◌++◌, ◌||◌, Bool, true, false, map, Option, Some, None, refl, sym, subst, ◌∙◌, append_assoc, append-nil}
+use Rattle.std.proofs.Common.{◌≡◌, ℕ, ◌+◌, List, [], ◌∷◌, ◌++◌, Bool, true, false, map, Option, Some, None, refl, sym, subst, append_assoc, append-nil}
 use Rattle.std.specs.Prelude.{if◌then◌else◌}
 use Rattle.std.specs.List.{All}
 use Rattle.std.specs.Option.{option_or}
@@ -11,7 +11,7 @@ use Rattle.hp_model.specs.WellFormed.{constants}
 use Rattle.hp_sorts.specs.declared.fault.SortErr.{SortErr}
 use Rattle.hp_sorts.specs.declared.fault.SortErr.TheVariants.{Twice}
 use Rattle.hp_sorts.specs.declared.tables.Tables.{Tables}
-use Rattle.hp_sorts.specs.Numbered.{Name, is_among}
+use Rattle.hp_sorts.specs.Numbered.{is_among}
 use Rattle.hp_sorts.specs.Symbols.{symbols, declare, is_declared}
 use Rattle.hp_sorts.specs.Faults.{decl_fault, decls_fault}
 use Rattle.hp_names.specs.Names.{AreDistinct}

@@ -3,7 +3,6 @@ ghost use Rattle.std.specs.Prelude.{◌≡◌, ◌++◌, ◌∷◌, [], IfOk, On
 ghost use Rattle.hp_leaf.specs.Tree.{lit_at, place_lits};
 
 use hp_defs::Ground;
-
 use hp_lit::{Choice, IdxLit, Lit};
 use hp_num::List;
 use std::alloc::{AllocError, Global};

@@ -6,9 +6,8 @@ ghost use Rattle.hp_leaf.specs.Tree.{lits_at, IsLine, children};
 ghost use Rattle.hp_search.specs.Search.{IsSibling, later, MovedOn};
 
 use hp_defs::Ground;
-
-use hp_lit::Choice;
 use hp_leaf::Node;
+use hp_lit::Choice;
 use hp_num::List;
 use std::alloc::{AllocError, Global};
 

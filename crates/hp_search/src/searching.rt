@@ -13,9 +13,9 @@ use crate::looking::{Seen, guess_model, look};
 use crate::places::{enter, go_on, leave};
 use crate::singles::{close_singles, singles_of};
 use hp_defs::Ground;
-use hp_lit::{Choice, Valuation};
 use hp_descent::Strain;
 use hp_leaf::Node;
+use hp_lit::{Choice, Valuation};
 use hp_num::List;
 use std::alloc::{AllocError, Global};
 

@@ -10,8 +10,8 @@ ghost use Rattle.hp_search.specs.inner.Singles.{AreSinglesOf, line_at, lines_of_
 
 use crate::literals::lits_of;
 use hp_defs::Ground;
-use hp_lit::{Choice, Share, Step};
 use hp_leaf::{LeafProof, Node};
+use hp_lit::{Choice, Share, Step};
 use hp_num::List;
 use hp_path::{Quick, decide_quickly};
 use std::alloc::{AllocError, Global};

@@ -8,9 +8,8 @@ ghost use Rattle.hp_diff.specs.Rows.{IsSmallWhole};
 ghost use Rattle.hp_search.specs.Lines.{AreReadable, HasSmallSides, IsFalseLine, IsReadable, IsSmallIndex, IsWideChoice, Judges, JudgesLine, JudgesLit, Keeps};
 
 use hp_defs::Ground;
-
-use hp_lit::{Choice, IdxLit, Line, Lit, Name, Valuation};
 use hp_descent::holds;
+use hp_lit::{Choice, IdxLit, Line, Lit, Name, Valuation};
 use hp_num::Wide;
 use std::alloc::AllocError;
 

@@ -6,8 +6,8 @@ ghost use Rattle.hp_lit.specs.Truth.{Compares};
 ghost use Rattle.hp_descent.specs.Columns.{columns};
 ghost use Rattle.hp_simplex.specs.inner.Checks.{AddTo, Gives, IsRight, MeetAll, Meets};
 
-use hp_lit::{Lit, Name, NameValue, NumLit, Part, Rel, Share};
 use hp_farkas::check_num;
+use hp_lit::{Lit, Name, NameValue, NumLit, Part, Rel, Share};
 use hp_num::{Frac, List, Whole};
 use std::alloc::{AllocError, Global};
 use std::cmp::Ordering;

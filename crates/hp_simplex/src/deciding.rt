@@ -13,8 +13,8 @@ use crate::relaxing::relax;
 use crate::search::{Outcome, search};
 use crate::solution::numbers_of;
 use crate::tableau::tableau_of;
-use hp_lit::{Name, NameValue, NumLit, Share};
 use hp_descent::{DescentErr, NumAnswer, columns_of};
+use hp_lit::{Name, NameValue, NumLit, Share};
 use hp_num::{Frac, List};
 use std::alloc::{AllocError, Global};
 

@@ -9,16 +9,16 @@ ghost use Rattle.hp_ground.specs.Lines.{IsGroundOf};
 ghost use Rattle.hp_index.specs.Literals.{IsLight};
 ghost use Rattle.hp_solve.specs.Solved.{IsInScope, SolvedAs};
 
-use hp_tree::{Limit, Problem};
-use hp_defs::{Constant, Ground};
-use hp_lit::{GroundErr, Valuation};
 use hp_cert::{Refutation, entries};
+use hp_defs::{Constant, Ground};
 use hp_descent::Strain;
 use hp_ground::ground;
 use hp_leaf::Node;
+use hp_lit::{GroundErr, Valuation};
 use hp_model::{ConstValue, Structure};
 use hp_num::List;
 use hp_search::{Found, SearchErr, search};
+use hp_tree::{Limit, Problem};
 use std::alloc::{AllocError, Global};
 
 /// The verdict on a problem.

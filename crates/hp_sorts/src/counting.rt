@@ -4,9 +4,7 @@ ghost use Rattle.std.specs.Prelude.{◌≡◌};
 ghost use Rattle.std.specs.List.{list_any};
 ghost use Rattle.hp_sorts.specs.Limits.{passed, limit, has_many_variables, has_many_arguments};
 
-use hp_tree::{
-    Clause, Decl, Limit, MOST_ARGUMENTS, MOST_CLAUSES, MOST_VARIABLES, Problem, Which,
-};
+use hp_tree::{Clause, Decl, Limit, MOST_ARGUMENTS, MOST_CLAUSES, MOST_VARIABLES, Problem, Which};
 
 /// The first limit of a text that the problem passes: 2,000 clauses, then 6 variables of a clause, then 4 arguments of
 /// a declared function. `None` where it passes none. The `item` is 0. Takes no memory.

@@ -6,8 +6,8 @@ ghost use Rattle.hp_sorts.specs.Faults.{Answers, is_level, decl_fault, decls_fau
 
 use crate::fault::SortErr;
 use crate::tables::{Signature, Tables};
-use hp_tree::{Decl, Sort};
 use hp_num::{List, Text};
+use hp_tree::{Decl, Sort};
 use std::alloc::{AllocError, Global};
 
 /// What the declarations declare, or the first fault among them.

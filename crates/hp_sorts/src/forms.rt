@@ -5,8 +5,8 @@ ghost use Rattle.std.specs.List.{list_all};
 ghost use Rattle.hp_sorts.specs.Terms.{sort_forms, no_forms, has_form, name_forms, number_forms, fit, sum_forms, difference_forms, negation_forms, multiple_forms, term_forms, first_sort, atom_sort, relates, is_sorted_as, atom_is_sorted};
 
 use crate::tables::{SortTable, Tables};
-use hp_tree::{Atom, Cmp, Sort, Term};
 use hp_num::Frac;
+use hp_tree::{Atom, Cmp, Sort, Term};
 
 /// What a term is: the sorts whose form it has, and whether it is a whole number that is written as one.
 #[derive(Clone, Copy)]

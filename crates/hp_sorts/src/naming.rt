@@ -5,8 +5,8 @@ ghost use Rattle.std.specs.List.{list_all};
 ghost use Rattle.hp_sorts.specs.Terms.{name_passes, application_passes, term_passes, atom_passes};
 
 use crate::tables::{SortTable, Tables};
-use hp_tree::{Atom, Term};
 use hp_num::Text;
+use hp_tree::{Atom, Term};
 
 /// A rule on the names of a clause.
 #[derive(Clone, Copy)]

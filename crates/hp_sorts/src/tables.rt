@@ -4,9 +4,9 @@ ghost use Rattle.std.specs.Prelude.{◌≡◌, ◌++◌, [], ◌∷◌, false, O
 ghost use Rattle.hp_sorts.specs.Numbered.{is_among, named};
 ghost use Rattle.hp_sorts.specs.Symbols.{no_symbols, is_declared, signature_of, name_sort};
 
-use hp_tree::Sort;
 use hp_names::NameIndex;
 use hp_num::{List, Text};
+use hp_tree::Sort;
 use std::alloc::{AllocError, Global};
 
 /// Names in the order in which they were added, and the sort of each at its place.

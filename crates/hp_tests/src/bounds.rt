@@ -3,8 +3,8 @@ ghost use Rattle.std.specs.Prelude.{◌≡◌, true};
 ghost use Rattle.std.specs.List.{All};
 ghost use Rattle.hp_lit.specs.Fit.{IsSmallBound};
 
-use hp_lit::{IdxLit, Name, NameValue};
 use hp_diff::{DiffAnswer, decide};
+use hp_lit::{IdxLit, Name, NameValue};
 use hp_num::List;
 use std::alloc::{AllocError, Global};
 

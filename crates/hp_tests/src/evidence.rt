@@ -1,9 +1,9 @@
 //! Texts of evidence that no run shows today, by the rules of its form.
 
-use hp_lit::{Choice, Share};
 use hp_cert::{Entry, Refutation, body, overflow_text};
 use hp_descent::{At, Form, Place, RowStrain, Strain};
 use hp_leaf::{LeafProof, Node};
+use hp_lit::{Choice, Share};
 use hp_num::{List, Op, Text, Wide};
 use std::alloc::{AllocError, Global};
 

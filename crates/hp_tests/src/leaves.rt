@@ -3,9 +3,9 @@ ghost use Rattle.std.specs.Prelude.{◌≡◌, true};
 ghost use Rattle.std.specs.List.{All};
 ghost use Rattle.hp_leaf.specs.Check.{HasNarrowBound};
 
-use hp_lit::{IdxLit, Lit, Name, NumLit, Part, PtrLit, Rel, Share, Step};
 use hp_farkas::check_num;
 use hp_leaf::{LeafProof, check_leaf, renumber_shares, renumber_steps};
+use hp_lit::{IdxLit, Lit, Name, NumLit, Part, PtrLit, Rel, Share, Step};
 use hp_num::{List, Op, Wide};
 use std::alloc::{AllocError, Global};
 

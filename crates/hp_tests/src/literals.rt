@@ -1,9 +1,9 @@
 //! What the descent and the simplex over literals answer, with ample memory, to literals whose answers are known by hand.
 
-use hp_lit::{Name, NameValue, NumLit, Part, Rel, Share, Valuation};
 use hp_descent::{
     At, ChainAnswer, DescentErr, Form, NumAnswer, are_fit, compare, decide_chain, holds, value_at,
 };
+use hp_lit::{Name, NameValue, NumLit, Part, Rel, Share, Valuation};
 use hp_num::{Frac, List, Op, Wide};
 use std::alloc::{AllocError, Global};
 use std::cmp::Ordering;

@@ -4,14 +4,14 @@ ghost use Rattle.std.specs.List.{All};
 ghost use Rattle.hp_defs.specs.Names.{sorts};
 ghost use Rattle.hp_search.specs.Lines.{AreBuilt};
 
-use hp_tree::Sort;
 use hp_defs::{Ground, Names};
-use hp_lit::{Choice, IdxLit, Line, Lit, Name, NumLit, Origin, Part, Rel, Valuation};
 use hp_descent::{At, DescentErr, Form, Place, Strain};
 use hp_leaf::LeafProof;
+use hp_lit::{Choice, IdxLit, Line, Lit, Name, NumLit, Origin, Part, Rel, Valuation};
 use hp_num::{List, Text};
 use hp_path::{Decision, Quick, are_built, decide, decide_quickly};
 use hp_search::{Found, SearchErr, Solution, search};
+use hp_tree::Sort;
 use std::alloc::{AllocError, Global};
 use std::test::Fail;
 

@@ -1,6 +1,5 @@
 -- The value of a term, and the truth of atoms, where names and functions have values.
-use Rattle.std.specs.Prelude.{ℕ, zero, suc, List, [], ◌∷◌, Bool, true, false, ◌&&◌, ◌||◌, not, if◌then◌else◌, pos, codes, slice_index_or}
-use Rattle.std.specs.Str.{bytes_eq}
+use Rattle.std.specs.Prelude.{ℕ, List, [], ◌∷◌, Bool, true, false, ◌&&◌, ◌||◌, not, pos}
 use Rattle.hp_math.specs.Rational.{ℚ, whole, ◌+ℚ◌, ◌-ℚ◌, ◌*ℚ◌, neg_ℚ, le_ℚ, lt_ℚ, eq_ℚ}
 use Rattle.hp_tree.specs.declared.term.Term.{Term, fold-Term}
 use Rattle.hp_tree.specs.declared.term.Term.TheOpen.{Term-F}

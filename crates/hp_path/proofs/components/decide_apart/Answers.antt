@@ -1,13 +1,13 @@
-use Rattle.std.proofs.Common.{◌≡◌, ◌≤◌, ◌<◌, ◌+◌, ◌++◌, ◌∷◌, [], List, ℕ, sym, ◌∙◌, ap, subst, arith, length, length-append, get_or, true, false, set, replicate}
+use Rattle.std.proofs.Common.{◌≡◌, ◌≤◌, ◌<◌, ◌+◌, ◌++◌, sym, ◌∙◌, ap, subst, arith, length, get_or, true, false, set, replicate}
 use Rattle.std.proofs.lemmas.List.{nil_from_length}
 use Rattle.hp_defs.specs.Names.{sorts}
 use Rattle.hp_lit.specs.declared.literal.NumLit.{NumLit}
 use Rattle.hp_lit.specs.declared.valuation.NameValue.{NameValue}
 use Rattle.std.specs.List.{All, filter}
-use Rattle.hp_path.specs.inner.Components.{AreGivenUp, AreSettled, AreSolved, IsGivenUp, first_label, has_label, is_done, label_at, places_with}
+use Rattle.hp_path.specs.inner.Components.{first_label, has_label, is_done, label_at}
 use Rattle.hp_path.specs.inner.Placed.{AreSolving}
 use Rattle.hp_path.specs.inner.Sides.{AreOfLabel, DecidesPart}
-use Rattle.hp_path.proofs.Gathering.{done_read, label_small, settled_found, settled_none, settled_past, settled_unknown, solved_all, solved_more, solved_none, solved_past}
+use Rattle.hp_path.proofs.Gathering.{done_read, label_small, settled_found, settled_none, settled_past, settled_unknown, solved_all}
 use Rattle.hp_path.proofs.components.decide_apart.Goals as goal
 use Rattle.hp_path.proofs.components.decide_apart.Goals.{then-not-get+in_ok-more+in-Point+in_ok-push_values-in-Point, then-not-get+in_ok-more+in-Unknown+in_ok-push-in-Unknown, else-not-get}
 

@@ -1,4 +1,4 @@
-use Rattle.std.proofs.Common.{sym, ◌∙◌, subst, map, Ok, arith}
+use Rattle.std.proofs.Common.{sym, ◌∙◌, subst, map, arith}
 use Rattle.std.specs.List.{filter}
 use Rattle.std.proofs.lemmas.List.Elements.{All-filter}
 use Rattle.hp_defs.specs.Names.{sorts}

@@ -1,9 +1,9 @@
-use Rattle.std.proofs.Common.{◌≤◌, ◌∙◌, length, subst, sym}
+use Rattle.std.proofs.Common.{◌∙◌, subst, sym}
 use Rattle.std.specs.List.{All}
 use Rattle.hp_defs.specs.Names.{sorts}
 use Rattle.hp_lit.specs.Fit.{IsBuilt}
 use Rattle.hp_path.specs.Decided.{DecidesQuickly}
-use Rattle.hp_search.proofs.Reading.{lines_readable, place_built, place_few}
+use Rattle.hp_search.proofs.Reading.{lines_readable, place_built}
 use Rattle.hp_search.proofs.looking.guess_model.Goals as goal
 
 pub decide_quickly-requires-clause-built : goal.decide_quickly-requires-clause-built

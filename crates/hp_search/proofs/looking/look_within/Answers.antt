@@ -1,5 +1,4 @@
 use Rattle.std.proofs.Common.{◌≤◌, arith, length, subst, sym}
-use Rattle.hp_search.specs.Search.{IsPartOf}
 use Rattle.hp_search.proofs.Picking.{caused_within, part_short}
 use Rattle.hp_search.proofs.looking.look_within.Goals as goal
 

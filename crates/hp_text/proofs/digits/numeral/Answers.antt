@@ -1,4 +1,4 @@
-use Rattle.std.proofs.Common.{◌≡◌, ◌<◌, ◌≤◌, ◌^◌, ◌∙◌, ap, sym, subst, take, arith, ℕ, length}
+use Rattle.std.proofs.Common.{◌≡◌, ◌∙◌, ap, take, arith, length}
 use Rattle.std.proofs.Math.Seq.{take-length}
 use Rattle.hp_text.specs.Numeral.{numeral_value}
 use Rattle.hp_text.proofs.Values.{few_digits, one_digit_more}
