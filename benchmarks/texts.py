@@ -99,6 +99,13 @@ def apart(count):
     return num_constants(count) + [f"query c{i} < 0;" for i in range(count)]
 
 
+def strained(rng, count):
+    """Rows over 10 fractions that can't all hold and need wide multipliers, behind a bound on each of so many other names."""
+    component = large(rng, 60, 10, -10_000)
+    others = ["const " + ", ".join(f"d{i}" for i in range(count)) + ": num;"]
+    return component[:1] + others + [f"query d{i} < 0;" for i in range(count)] + component[1:]
+
+
 def num_chain(count, closed):
     """One name below the next, and the last below the first where closed."""
     last = [f"query c{count} < c0;"] if closed else []
@@ -132,6 +139,7 @@ def main():
     write("large-late-10.hp", large(random.Random(1), 60, 10, -10_000))
     write("large-late-15.hp", large(random.Random(1), 90, 15, -10_000))
     write("apart.hp", apart(1900))
+    write("strained.hp", strained(random.Random(1), 1900))
     write("num-chain.hp", num_chain(60, False))
     write("num-ring.hp", num_chain(60, True))
     write("num-choices.hp", num_choices(random.Random(5), 5))
