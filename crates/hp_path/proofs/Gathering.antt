@@ -19,8 +19,8 @@ use Rattle.hp_descent.specs.Answers.{IsSolution}
 use Rattle.hp_descent.proofs.Rising.{columns_are_names}
 use Rattle.hp_leaf.specs.Renumbered.{Stands, StandsFrom}
 use Rattle.hp_path.specs.declared.components.Pace.{Pace}
-use Rattle.hp_path.specs.inner.Components.{AreLabels, AreSettled, AreSolved, IsGivenUp, IsOneLabel, first_label, has_label, is_done, label_at, label_of_last, places_with}
-use Rattle.hp_path.specs.inner.Placed.{AreSolving, HasValue}
+use Rattle.hp_path.specs.Components.{AreLabels, AreSettled, AreSolved, IsGivenUp, IsOneLabel, first_label, has_label, is_done, label_at, label_of_last, places_with}
+use Rattle.hp_path.specs.Placed.{AreSolving, HasValue}
 use Rattle.hp_path.proofs.Places.{apart_append}
 use Rattle.hp_path.proofs.Mixed.{All-left, All-right, names_all}
 

@@ -10,7 +10,7 @@ use Rattle.hp_tree.specs.declared.problem.Sort.TheVariants as sort
 use Rattle.hp_lit.specs.declared.literal.Part.{Part}
 use Rattle.hp_lit.specs.declared.literal.NumLit.{NumLit}
 use Rattle.hp_lit.specs.Fit.{IsNumOver}
-use Rattle.hp_path.specs.inner.Components.{AreLabels, AreNamesOf, IsCoarser, IsOneLabel, first_label, label_at, merged}
+use Rattle.hp_path.specs.Components.{AreLabels, AreNamesOf, IsCoarser, IsOneLabel, first_label, label_at, merged}
 
 -- ---- coarser labels
 pub coarser_same : (labels : List ℕ) → IsCoarser labels labels

@@ -27,7 +27,7 @@ use Rattle.hp_descent.proofs.Rising.{columns_are_names}
 use Rattle.hp_lit.specs.Fit.{IsBuilt, IsIdxSide, IsNumOver, IsRowOver}
 use Rattle.hp_path.specs.Kinds.{idx_lits, num_lits}
 use Rattle.hp_path.specs.Decided.{AreOfChain, AreSmallIdx, AreValuesFor}
-use Rattle.hp_path.specs.inner.Placed.{AreApart, AreSolving, HasValue, IsValueOver}
+use Rattle.hp_path.specs.Placed.{AreApart, AreSolving, HasValue, IsValueOver}
 use Rattle.hp_path.proofs.Places.{apart_append, rising_apart, value_after, values_own}
 
 -- ---- the literals of each sort

@@ -18,7 +18,7 @@ use Rattle.hp_lit.specs.Truth.{Values, name_value}
 use Rattle.hp_diff.specs.Rows.{IsSmallWhole}
 use Rattle.hp_descent.specs.Values.{value_in}
 use Rattle.hp_path.specs.Decided.{AreSmallIdx}
-use Rattle.hp_path.specs.inner.Placed.{AreApart, IsValueOver, put_all}
+use Rattle.hp_path.specs.Placed.{AreApart, IsValueOver, put_all}
 
 -- ---- the sorts of values
 set_sorted : (ss : List Sort) (v : Values) (nv : NameValue) → AreOfSorts ss v → IsValueOver ss nv → AreOfSorts ss (set v nv.name.0 nv.value)

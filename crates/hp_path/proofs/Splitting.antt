@@ -11,7 +11,7 @@ use Rattle.hp_lit.specs.Cycle.{IsLit}
 use Rattle.hp_leaf.specs.Renumbered.{Stands, StandsFrom}
 use Rattle.hp_path.specs.declared.parting.Parts.{Parts}
 use Rattle.hp_path.specs.Kinds.{idx_lits, num_lits}
-use Rattle.hp_path.specs.inner.Parted.{AreParts, idx_places, num_places}
+use Rattle.hp_path.specs.Parted.{AreParts, idx_places, num_places}
 
 -- the parts so far, with those of the literals from number n + 1 on behind them, are those of all literals
 pub record ArePartsTo (lits : List Lit) (n : ℕ) (p : Parts) : Type 0 where

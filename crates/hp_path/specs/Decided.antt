@@ -19,8 +19,8 @@ use Rattle.hp_path.specs.declared.quick.Quick.TheVariants as quick
 use Rattle.hp_path.specs.declared.components.Pace.{Pace}
 use Rattle.hp_path.specs.declared.components.Pace.TheVariants as pace
 use Rattle.hp_path.specs.Kinds.{num_lits}
-use Rattle.hp_path.specs.inner.Parted.{num_places}
-use Rattle.hp_path.specs.inner.Components.{IsGivenUp}
+use Rattle.hp_path.specs.Parted.{num_places}
+use Rattle.hp_path.specs.Components.{IsGivenUp}
 
 -- each name of sort idx has a whole number of a magnitude of at most 10^37
 abbrev pub AreSmallIdx : List Sort → Values → Type 0

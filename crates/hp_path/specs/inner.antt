@@ -1,4 +1,1 @@
-pub mod Parted
-pub mod Placed
 pub mod Sides
-pub mod Components

@@ -5,8 +5,8 @@ ghost use Rattle.hp_tree.specs.Limits.{most_rows};
 ghost use Rattle.hp_defs.specs.Names.{sorts};
 ghost use Rattle.hp_lit.specs.Fit.{IsBuilt};
 ghost use Rattle.hp_path.specs.Kinds.{num_lits};
-ghost use Rattle.hp_path.specs.inner.Components.{AreLabels, IsComponentOfLast};
-ghost use Rattle.hp_path.specs.inner.Parted.{num_places};
+ghost use Rattle.hp_path.specs.Components.{AreLabels, IsComponentOfLast};
+ghost use Rattle.hp_path.specs.Parted.{num_places};
 
 use crate::components::component_of;
 use crate::labels::{first_label, labels_of};
@@ -19,7 +19,7 @@ use std::alloc::{AllocError, Global};
 /// The label of the last literal, and 0 where there is none.
 fn label_of_last(labels: &List<u32>, nums: &List<NumLit>) -> u32
     requires { AreLabels labels.now nums.now }
-    ensures { result ≡ Rattle.hp_path.specs.inner.Components.label_of_last labels.now nums.now }
+    ensures { result ≡ Rattle.hp_path.specs.Components.label_of_last labels.now nums.now }
 {
     let count = nums.len();
     if count == 0 {

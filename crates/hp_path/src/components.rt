@@ -13,8 +13,8 @@ ghost use Rattle.hp_descent.specs.Columns.{AreNumFit};
 ghost use Rattle.hp_leaf.specs.Renumbered.{Stands};
 ghost use Rattle.hp_lit.specs.Fit.{IsBuilt, IsNumOver};
 ghost use Rattle.hp_path.specs.Kinds.{num_lits};
-ghost use Rattle.hp_path.specs.inner.Components.{AreLabels, has_label, places_with};
-ghost use Rattle.hp_path.specs.inner.Parted.{AreParts, num_places};
+ghost use Rattle.hp_path.specs.Components.{AreLabels, has_label, places_with};
+ghost use Rattle.hp_path.specs.Parted.{AreParts, num_places};
 ghost use Rattle.hp_path.specs.inner.Sides.{AreOfLabel, DecidesNums, DecidesPart, Tells};
 
 use crate::labels::{first_label, labels_of};

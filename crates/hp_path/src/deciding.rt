@@ -7,7 +7,7 @@ ghost use Rattle.hp_diff.specs.Rows.{IsPoint};
 ghost use Rattle.hp_lit.specs.Fit.{IsBuilt};
 ghost use Rattle.hp_path.specs.Kinds.{idx_lits};
 ghost use Rattle.hp_path.specs.Decided.{Decides};
-ghost use Rattle.hp_path.specs.inner.Parted.{AreParts};
+ghost use Rattle.hp_path.specs.Parted.{AreParts};
 
 use crate::parting::{Parts, parts_of};
 use crate::placing::values_for;

@@ -4,7 +4,7 @@ ghost use Rattle.std.specs.List.{All, Contains};
 ghost use Rattle.hp_tree.specs.Limits.{most_names};
 ghost use Rattle.hp_defs.specs.Names.{sorts};
 ghost use Rattle.hp_lit.specs.Fit.{IsNumOver};
-ghost use Rattle.hp_path.specs.inner.Components.{AreLabels, AreNamesOf, IsCoarser, IsOneLabel, first_label, merged};
+ghost use Rattle.hp_path.specs.Components.{AreLabels, AreNamesOf, IsCoarser, IsOneLabel, first_label, merged};
 
 use hp_defs::Names;
 use hp_lit::{NumLit, Part};

@@ -1,7 +1,7 @@
 //! The literals of a path by their sorts, each with its number along the path.
 ghost use Rattle.std.specs.Prelude.{◌≡◌, ◌≤◌, IfOk, length};
 ghost use Rattle.hp_tree.specs.Limits.{most_rows};
-ghost use Rattle.hp_path.specs.inner.Parted.{AreParts};
+ghost use Rattle.hp_path.specs.Parted.{AreParts};
 
 use hp_lit::{IdxLit, Lit, NumLit};
 use hp_num::List;

@@ -11,7 +11,7 @@ ghost use Rattle.hp_diff.specs.Rows.{IsPoint};
 ghost use Rattle.hp_lit.specs.Fit.{IsBuilt};
 ghost use Rattle.hp_path.specs.Kinds.{idx_lits, num_lits};
 ghost use Rattle.hp_path.specs.Decided.{AreSmallIdx, AreValuesFor};
-ghost use Rattle.hp_path.specs.inner.Placed.{AreApart, AreSolving, IsValueOver, put_all};
+ghost use Rattle.hp_path.specs.Placed.{AreApart, AreSolving, IsValueOver, put_all};
 
 use hp_defs::Names;
 use hp_lit::{Lit, NameValue, Valuation};

@@ -4,7 +4,7 @@ ghost use Rattle.std.specs.List.{All};
 ghost use Rattle.hp_tree.specs.Limits.{most_rows};
 ghost use Rattle.hp_defs.specs.Names.{sorts};
 ghost use Rattle.hp_lit.specs.Fit.{IsBuilt};
-ghost use Rattle.hp_path.specs.inner.Parted.{AreParts};
+ghost use Rattle.hp_path.specs.Parted.{AreParts};
 ghost use Rattle.hp_path.specs.inner.Sides.{DecidesRows};
 
 use crate::parting::Parts;

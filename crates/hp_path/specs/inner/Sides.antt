@@ -20,8 +20,8 @@ use Rattle.hp_path.specs.declared.components.Side.{Side}
 use Rattle.hp_path.specs.declared.components.Side.TheVariants as side
 use Rattle.hp_path.specs.declared.parting.Parts.{Parts}
 use Rattle.hp_path.specs.Kinds.{idx_lits}
-use Rattle.hp_path.specs.inner.Placed.{AreSolving}
-use Rattle.hp_path.specs.inner.Components.{AreGivenUp, IsGivenUp, has_label, label_at, places_with}
+use Rattle.hp_path.specs.Placed.{AreSolving}
+use Rattle.hp_path.specs.Components.{AreGivenUp, IsGivenUp, has_label, label_at, places_with}
 
 -- of the literals over whole numbers
 abbrev pub DecidesRows : List Lit → DiffAnswer → Type 0

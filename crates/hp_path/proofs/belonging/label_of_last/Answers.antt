@@ -1,5 +1,5 @@
 use Rattle.std.proofs.Common.{◌∙◌, ap, arith}
-use Rattle.hp_path.specs.inner.Components.{first_label}
+use Rattle.hp_path.specs.Components.{first_label}
 use Rattle.hp_path.proofs.Gathering.{last_label}
 use Rattle.hp_path.proofs.belonging.label_of_last.Goals as goal
 

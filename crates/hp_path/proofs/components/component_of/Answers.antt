@@ -1,5 +1,5 @@
 use Rattle.std.proofs.Common.{◌≡◌, ◌<◌, sym, ◌∙◌, ap, length, subst, get_or, ◌++◌, ◌∷◌, []}
-use Rattle.hp_path.specs.inner.Components.{first_label}
+use Rattle.hp_path.specs.Components.{first_label}
 use Rattle.hp_path.proofs.Gathering.{has_place, nums_with, nums_without, places_more, places_without}
 use Rattle.hp_path.proofs.components.component_of.Goals as goal
 use Rattle.hp_path.proofs.components.component_of.Goals.{then-first_label-label+in_ok-copy+in_ok-push+in_ok-push-2, else-first_label-label}

@@ -1,6 +1,6 @@
 use Rattle.std.proofs.Common.{◌≡◌, ◌++◌, drop}
 use Rattle.std.specs.List.{filter}
-use Rattle.hp_path.specs.inner.Components.{has_label, places_with}
+use Rattle.hp_path.specs.Components.{has_label, places_with}
 use Rattle.hp_path.proofs.components.component_of.Given as goal
 
 abbrev pub invariant-loop-at : goal.invariant-loop-at

@@ -4,8 +4,8 @@ use Rattle.hp_defs.specs.Names.{sorts}
 use Rattle.hp_lit.specs.declared.literal.NumLit.{NumLit}
 use Rattle.hp_lit.specs.declared.valuation.NameValue.{NameValue}
 use Rattle.std.specs.List.{All, filter}
-use Rattle.hp_path.specs.inner.Components.{first_label, has_label, is_done, label_at}
-use Rattle.hp_path.specs.inner.Placed.{AreSolving}
+use Rattle.hp_path.specs.Components.{first_label, has_label, is_done, label_at}
+use Rattle.hp_path.specs.Placed.{AreSolving}
 use Rattle.hp_path.specs.inner.Sides.{AreOfLabel, DecidesPart}
 use Rattle.hp_path.proofs.Gathering.{done_read, label_small, settled_found, settled_none, settled_past, settled_unknown, solved_all}
 use Rattle.hp_path.proofs.components.decide_apart.Goals as goal

@@ -1,5 +1,5 @@
 use Rattle.hp_defs.specs.Names.{sorts}
-use Rattle.hp_path.specs.inner.Components.{AreSettled}
+use Rattle.hp_path.specs.Components.{AreSettled}
 use Rattle.hp_path.proofs.components.decide_apart.Given as goal
 
 abbrev pub invariant-loop-lit : goal.invariant-loop-lit

@@ -9,7 +9,7 @@ use Rattle.hp_descent.specs.Columns.{AreNumFit}
 use Rattle.hp_leaf.specs.Renumbered.{renumbered_shares}
 use Rattle.hp_leaf.proofs.Renumbered.{num_placed}
 use Rattle.hp_lit.specs.Fit.{IsNumOver}
-use Rattle.hp_path.specs.inner.Components.{has_label, places_with}
+use Rattle.hp_path.specs.Components.{has_label, places_with}
 use Rattle.hp_path.specs.inner.Sides.{Tells}
 use Rattle.hp_path.proofs.Gathering.{fewer_with, names_with, same_count, stands_with}
 use Rattle.hp_path.proofs.Mixed.{fit_over, solving}

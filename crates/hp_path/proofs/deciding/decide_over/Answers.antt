@@ -7,8 +7,8 @@ use Rattle.hp_descent.specs.Columns.{AreNumFit}
 use Rattle.hp_leaf.specs.Renumbered.{renumbered_shares}
 use Rattle.hp_leaf.proofs.Renumbered.{num_placed}
 use Rattle.hp_path.specs.Kinds.{num_lits}
-use Rattle.hp_path.specs.inner.Parted.{num_places}
-use Rattle.hp_path.specs.inner.Placed.{AreSolving}
+use Rattle.hp_path.specs.Parted.{num_places}
+use Rattle.hp_path.specs.Placed.{AreSolving}
 use Rattle.hp_path.proofs.Mixed.{fit_nums, nums_built, solving}
 use Rattle.hp_path.proofs.Splitting.{nums_stand}
 use Rattle.hp_path.proofs.deciding.decide_over.Goals as goal

@@ -3,7 +3,7 @@ use Rattle.std.specs.List.{All}
 use Rattle.std.proofs.lemmas.List.{take_all}
 use Rattle.std.proofs.lemmas.List.Elements.{All-nil}
 use Rattle.hp_lit.specs.declared.literal.Part.{Part}
-use Rattle.hp_path.specs.inner.Components.{first_label, label_at}
+use Rattle.hp_path.specs.Components.{first_label, label_at}
 use Rattle.hp_path.proofs.Merging.{coarser_same, merged_same, part_joined}
 use Rattle.hp_path.proofs.labels.join.Goals as goal
 use Rattle.hp_path.proofs.labels.join.Goals.{then-kept-gone, else-kept-gone}

@@ -1,4 +1,4 @@
-use Rattle.hp_path.specs.inner.Components.{IsCoarser}
+use Rattle.hp_path.specs.Components.{IsCoarser}
 use Rattle.hp_path.proofs.Merging.{IsOneTo}
 use Rattle.hp_path.proofs.labels.join.Given as goal
 

@@ -1,7 +1,7 @@
 use Rattle.std.proofs.Common.{◌≤◌, ◌∙◌, subst, arith, length}
 use Rattle.hp_defs.specs.Names.{sorts}
 use Rattle.hp_lit.specs.declared.literal.NumLit.{NumLit}
-use Rattle.hp_path.specs.inner.Components.{IsOneLabel}
+use Rattle.hp_path.specs.Components.{IsOneLabel}
 use Rattle.hp_path.proofs.Merging.{are_labels, below_after, lit_joined}
 use Rattle.hp_path.proofs.labels.labels_of.Goals as goal
 

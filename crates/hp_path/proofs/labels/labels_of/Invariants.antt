@@ -1,7 +1,7 @@
 use Rattle.std.proofs.Common.{◌≡◌, ◌<◌, length, take}
 use Rattle.std.specs.List.{All}
 use Rattle.hp_defs.specs.Names.{sorts}
-use Rattle.hp_path.specs.inner.Components.{IsOneLabel}
+use Rattle.hp_path.specs.Components.{IsOneLabel}
 use Rattle.hp_path.proofs.labels.labels_of.Given as goal
 
 abbrev pub invariant-loop-lit : goal.invariant-loop-lit

@@ -1,5 +1,5 @@
 use Rattle.std.proofs.Common.{◌<◌, sym, ◌∙◌, ap, length, subst}
-use Rattle.hp_path.specs.inner.Components.{merged}
+use Rattle.hp_path.specs.Components.{merged}
 use Rattle.hp_path.proofs.Merging.{label_kept, label_set, merged_gone, merged_other}
 use Rattle.hp_path.proofs.labels.merge.Goals as goal
 use Rattle.hp_path.proofs.labels.merge.Goals.{then-get-gone, else-get-gone}

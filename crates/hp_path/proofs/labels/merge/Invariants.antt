@@ -1,5 +1,5 @@
 use Rattle.std.proofs.Common.{◌≡◌, ◌++◌, take, drop, map}
-use Rattle.hp_path.specs.inner.Components.{merged}
+use Rattle.hp_path.specs.Components.{merged}
 use Rattle.hp_path.proofs.labels.merge.Given as goal
 
 abbrev pub invariant-loop-at : goal.invariant-loop-at

@@ -1,5 +1,5 @@
 use Rattle.std.proofs.Common.{◌≡◌, drop, length}
-use Rattle.hp_path.specs.inner.Placed.{put_all}
+use Rattle.hp_path.specs.Placed.{put_all}
 use Rattle.hp_path.proofs.placing.put.Given as goal
 
 abbrev pub invariant-loop-nv : goal.invariant-loop-nv

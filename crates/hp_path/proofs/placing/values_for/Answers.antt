@@ -3,7 +3,7 @@ use Rattle.std.specs.List.{All}
 use Rattle.hp_defs.specs.Names.{sorts}
 use Rattle.hp_descent.specs.Values.{value_in}
 use Rattle.hp_path.specs.Kinds.{idx_lits, num_lits}
-use Rattle.hp_path.specs.inner.Placed.{AreApart, IsValueOver}
+use Rattle.hp_path.specs.Placed.{AreApart, IsValueOver}
 use Rattle.hp_path.proofs.Mixed.{agrees, are_values, both_apart, both_over, rows_built}
 use Rattle.hp_path.proofs.placing.values_for.Goals as goal
 

@@ -3,7 +3,7 @@ use Rattle.hp_math.specs.Rational.{whole}
 use Rattle.hp_defs.specs.Names.{sorts}
 use Rattle.hp_lit.specs.Sorts.{AreOfSorts}
 use Rattle.hp_lit.specs.Truth.{name_value}
-use Rattle.hp_path.specs.inner.Placed.{put_all}
+use Rattle.hp_path.specs.Placed.{put_all}
 use Rattle.hp_path.proofs.Places.{all_values, all_within, put_sorted, values_small, zeros_sorted}
 use Rattle.hp_path.proofs.placing.values_of.Goals as goal
 

@@ -8,7 +8,7 @@ use Rattle.hp_lit.specs.Fit.{IsSmallBound}
 use Rattle.hp_leaf.specs.Renumbered.{renumbered_steps}
 use Rattle.hp_leaf.proofs.Renumbered.{idx_placed}
 use Rattle.hp_path.specs.Kinds.{idx_lits}
-use Rattle.hp_path.specs.inner.Parted.{idx_places}
+use Rattle.hp_path.specs.Parted.{idx_places}
 use Rattle.hp_path.proofs.Mixed.{fewer_rows, small_bounds}
 use Rattle.hp_path.proofs.Splitting.{rows_stand}
 use Rattle.hp_path.proofs.rows.decide_rows.Goals as goal

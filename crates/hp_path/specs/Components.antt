@@ -11,7 +11,7 @@ use Rattle.hp_descent.specs.declared.answer.RowStrain.{RowStrain}
 use Rattle.hp_descent.specs.Answers.{IsStrained}
 use Rattle.hp_path.specs.declared.components.Pace.{Pace}
 use Rattle.hp_path.specs.declared.components.Pace.TheVariants as pace
-use Rattle.hp_path.specs.inner.Placed.{AreApart, HasValue}
+use Rattle.hp_path.specs.Placed.{AreApart, HasValue}
 
 -- the label of a name
 abbrev pub label_at : List ℕ → ℕ → ℕ
