@@ -140,8 +140,8 @@ fn outcome<S: Source, K: Sink>(
 ///   constants and functions, and then the clauses.
 /// - 13: the problem is of a form that isn't decided so far: it declares something else than constants of sort `idx` and
 ///   `num`, or a clause has variables, or an atom is of another sort.
-/// - 9: a number passes 2^127 - 1 on the way to a verdict. The line shows the literals that the search had taken, and which
-///   operation on which numbers passes.
+/// - 9: a number passes 2^127 - 1 on the way to a verdict. The line shows an honest path of the search, and which operation
+///   on which numbers passes over its literals.
 /// - 10: the text is `satisfiable` and a structure that satisfies the problem.
 /// - 20: no structure satisfies the problem, and the text is a refutation.
 /// - 11: the search came to its limit of splits and leaves, and the text is its honest tree.

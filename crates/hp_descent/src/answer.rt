@@ -62,7 +62,7 @@ pub struct RowStrain {
     pub wide: Wide,
 }
 
-/// A place of a search tree: the choices from the root to it, in their order.
+/// A place of a search tree: choices on the way from the root to it, in their order, which are an honest path themselves.
 #[derive(Drop)]
 pub enum Place {
     Path(List<Choice>),
