@@ -121,10 +121,12 @@ pub fn solve(alloc: Global, p: &Problem, most: u64) -> Solved
     match ground(alloc, p) {
         Err(GroundErr::Limit(limit)) => Solved::Limit(limit),
         Err(GroundErr::Memory) => Solved::Memory,
-        Ok(None) => Solved::Other,
-        Ok(Some(g)) => match search(alloc, &g, most, false) {
-            Ok(found) => verdict(alloc, p, &g, most, found),
-            Err(error) => unfinished(p, &g, error),
+        Ok(found) => match found {
+            None => Solved::Other,
+            Some(g) => match search(alloc, &g, most, false) {
+                Ok(found) => verdict(alloc, p, &g, most, found),
+                Err(error) => unfinished(p, &g, error),
+            },
         },
     }
 }
