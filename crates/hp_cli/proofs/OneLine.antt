@@ -8,8 +8,8 @@ use Rattle.hp_tree.specs.declared.problem.Decl.TheVariants.{Const, Fun}
 use Rattle.hp_tree.specs.declared.problem.Problem.{Problem}
 use Rattle.hp_text.specs.Bytes.{is_letter, is_name_byte}
 use Rattle.hp_text.specs.Words.{is_name, is_reserved}
-use Rattle.hp_read.specs.declared.symbol.Symbol.{Symbol as Token}
-use Rattle.hp_read.specs.Token.{AreTokens}
+use Rattle.hp_grammar.specs.declared.symbol.Symbol.{Symbol as Token}
+use Rattle.hp_grammar.specs.Token.{AreTokens}
 use Rattle.hp_model.specs.WellFormed.{constants}
 use Rattle.hp_cert.specs.Spelled.{IsOther, IsOnOneLine}
 use Rattle.hp_ground.specs.Ground.{declared_name}
