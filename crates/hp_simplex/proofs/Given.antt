@@ -3,7 +3,7 @@ use Rattle.std.proofs.Common.{◌≡◌, ℕ, zero, suc, ◌+◌, ◌<◌, arith
 use Rattle.std.proofs.lemmas.List.Elements.{All-more}
 use Rattle.hp_lit.specs.declared.literal.NumLit.{NumLit}
 use Rattle.hp_lit.specs.declared.valuation.NameValue.{NameValue}
-use Rattle.hp_lit.specs.Truth.{Values, NumIsTrue}
+use Rattle.hp_lit.specs.Truth.{NumIsTrue}
 use Rattle.hp_lit.specs.Fit.{part_names}
 use Rattle.hp_descent.specs.Columns.{mentioned, columns}
 use Rattle.hp_descent.specs.Values.{IsTrueAmong}
