@@ -17,7 +17,8 @@ use Rattle.hp_lit.specs.declared.literal.Rel.TheVariants.{Le, Lt, Eq}
 use Rattle.hp_lit.specs.declared.literal.Part.{Part}
 use Rattle.hp_lit.specs.declared.literal.NumLit.{NumLit}
 use Rattle.hp_lit.specs.Truth.{Values, name_value, parts_value, Compares, NumIsTrue}
-use Rattle.hp_descent.specs.Values.{add_product, sum_at, exact_sum, Stands, is_met}
+use Rattle.hp_lit.specs.declared.valuation.NameValue.{NameValue}
+use Rattle.hp_descent.specs.Values.{add_product, sum_at, value_in, exact_sum, Stands, is_met, GivesAmong}
 
 -- a narrow number is its own image in 128 bits
 pub narrow_is : (z : ℤ) → unsigned_abs z < 2 ^ 127 → to_z w128 (of_z w128 z) ≡ z
@@ -83,3 +84,7 @@ stands_at v l sum o e h = subst (λ q. Stands o q (whole l.bound)) (whole_sum (n
 pub decides_at : (v : Values) (l : NumLit) (sum : ℚ) (o : Ordering) → sum_at (name_value v) (whole (pos 0)) l.parts ≡ Ok sum → Stands o sum (whole l.bound)
     → is_met l.rel o ≡ true ↔ NumIsTrue v l
 decides_at v l sum o e h = met_decides l.rel o (parts_value v l.parts) (whole l.bound) (stands_at v l sum o e h)
+
+pub decides_among : (values : List NameValue) (l : NumLit) (sum : ℚ) (o : Ordering) (v : Values) → sum_at (value_in values) (whole (pos 0)) l.parts ≡ Ok sum
+    → Stands o sum (whole l.bound) → GivesAmong values l.parts v → is_met l.rel o ≡ true ↔ NumIsTrue v l
+decides_among values l sum o v e h g = decides_at v l sum o (sum_at_same (name_value v) (value_in values) (whole (pos 0)) l.parts g ∙ e) h

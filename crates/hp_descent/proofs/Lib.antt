@@ -4,3 +4,4 @@ pub mod Numbering
 pub mod Farkas
 pub mod Addition
 pub mod Located
+pub mod Lookup

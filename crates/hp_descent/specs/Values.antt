@@ -1,5 +1,6 @@
 -- The values of names that the point of a chain gives, and how the left side of a literal stands to its bound there.
 use Rattle.std.specs.Prelude.{◌≡◌, ◌⊎◌, ℕ, suc, ℤ, pos, Bool, true, false, nat_eq, if◌then◌else◌, List, [], ◌∷◌, map, length, reverse, Result, Ok, Err}
+use Rattle.std.specs.List.{All}
 use Rattle.std.specs.declared.cmp.Ordering.{Ordering}
 use Rattle.std.specs.declared.cmp.Ordering.TheVariants.{Less, Equal, Greater}
 use Rattle.hp_math.specs.Rational.{ℚ, whole, ◌+ℚ◌, ◌*ℚ◌, ◌<ℚ◌}
@@ -10,6 +11,7 @@ use Rattle.hp_lit.specs.declared.literal.Rel.TheVariants.{Le, Lt, Eq}
 use Rattle.hp_lit.specs.declared.literal.Part.{Part}
 use Rattle.hp_lit.specs.declared.literal.NumLit.{NumLit}
 use Rattle.hp_lit.specs.declared.valuation.NameValue.{NameValue}
+use Rattle.hp_lit.specs.Truth.{Values, name_value, NumIsTrue}
 use Rattle.hp_rows.specs.Rows.{IsChain, HoldsBelow}
 use Rattle.hp_rows.specs.Points.{at_point}
 use Rattle.hp_rows.specs.Exact.{exact_point}
@@ -57,6 +59,17 @@ is_met Lt Greater = false
 is_met Eq Less = false
 is_met Eq Equal = true
 is_met Eq Greater = false
+
+-- the names of these parts have these values, or 0 where they have none among them
+abbrev pub GivesAmong : List NameValue → List Part → Values → Type 0
+GivesAmong values parts v = All (λ p. name_value v p.name.0 ≡ value_in values p.name.0) parts
+
+-- wherever the names of a literal have these values, it is true, or it is false
+abbrev pub IsTrueAmong : List NameValue → NumLit → Type 0
+IsTrueAmong values l = (v : Values) → GivesAmong values l.parts v → NumIsTrue v l
+
+abbrev pub IsFalseAmong : List NameValue → NumLit → Type 0
+IsFalseAmong values l = (v : Values) → GivesAmong values l.parts v → NumIsTrue v l → ⊥
 
 -- rows of the literals, which count from 1, as a chain at whose exact point every row holds
 pub record HoldsAtChain (lits : List NumLit) (chain : List ℕ) : Type 0 where

@@ -20,7 +20,7 @@ pub use chained::value_at;
 pub use columns::columns_of;
 pub use decision::{decide, decide_chain};
 pub use fit::are_fit;
-pub use sums::{compare, holds};
+pub use sums::{compare, holds, holds_among};
 
 /// The columns of literals are the names that occur in them, each once, in rising order.
 pub fn columns_are_names()

@@ -2,12 +2,13 @@
 //!
 //! The products of coefficient and value are added in the order of the parts, each product and each sum checked.
 
-ghost use Rattle.std.specs.Prelude.{◌≡◌, ◌↔◌, ◌<◌, ◌^◌, Ok, IfErr, IfOk, pos, true, false, unsigned_abs};
+ghost use Rattle.std.specs.Prelude.{◌≡◌, ◌↔◌, ◌<◌, ◌^◌, Ok, IfErr, IfOk, map, pos, true, false, unsigned_abs};
 ghost use Rattle.std.specs.List.{All};
+ghost use Rattle.std.specs.List.Sorted.{IsStrictlyIncreasing};
 ghost use Rattle.hp_math.specs.Rational.{whole};
 ghost use Rattle.hp_lit.specs.Truth.{NumIsTrue, name_value, parts_value};
 ghost use Rattle.hp_lit.specs.Fit.{IsNumFit};
-ghost use Rattle.hp_descent.specs.Values.{Stands, add_product, is_met, sum_at, value_in};
+ghost use Rattle.hp_descent.specs.Values.{IsFalseAmong, IsTrueAmong, Stands, add_product, is_met, sum_at, value_in};
 
 use hp_lit::{Name, NameValue, NumLit, Part, Rel, Valuation};
 use hp_num::{Frac, Whole, Wide};
@@ -38,6 +39,22 @@ pub fn holds(v: &Valuation, other: &NumLit) -> Result<bool, Wide>
 {
     match compare(v, other) {
         Ok(ordering) => Ok(is_met(other.rel, ordering)),
+        Err(wide) => Err(wide),
+    }
+}
+
+/// Whether the literal is true wherever its names have these values, and 0 where they have none among them. The error is
+/// the first operation that passes 2^127 - 1. It asks for a literal as `compare` does, and for values in rising order of
+/// names, among which each name is looked up by halving.
+pub fn holds_among(values: &[NameValue], other: &NumLit) -> Result<bool, Wide>
+    requires other { IsNumFit other.now }
+    requires values { IsStrictlyIncreasing (map (λ nv. nv.name.0) values.now) }
+    ensures yes { result ≡ Ok true → IsTrueAmong values.now other.now }
+    ensures no { result ≡ Ok false → IsFalseAmong values.now other.now }
+    ensures wide { IfErr result (λ wide. sum_at (value_in values.now) (whole (pos 0)) other.now.parts ≡ Err wide) }
+{
+    match sum_among(values, other.parts.as_slice()) {
+        Ok(sum) => Ok(is_met(other.rel, standing(sum, other.bound))),
         Err(wide) => Err(wide),
     }
 }
@@ -75,7 +92,8 @@ fn sum_over(v: &Valuation, parts: &[Part]) -> Result<Frac, Wide>
 
 /// The sum of the parts at these values, a name that is not among them with 0.
 pub fn sum_among(values: &[NameValue], parts: &[Part]) -> Result<Frac, Wide>
-    requires { All (λ p. unsigned_abs p.coef < 2 ^ 127) parts.now }
+    requires values { IsStrictlyIncreasing (map (λ nv. nv.name.0) values.now) }
+    requires parts { All (λ p. unsigned_abs p.coef < 2 ^ 127) parts.now }
     ensures { result ≡ sum_at (value_in values.now) (whole (pos 0)) parts.now }
 {
     let mut sum = fraction(0);
@@ -98,14 +116,13 @@ fn name_value(v: &Valuation, name: Name) -> Frac
 
 /// The value of a name among these, 0 where it has none.
 fn value_in(values: &[NameValue], name: Name) -> Frac
+    requires { IsStrictlyIncreasing (map (λ nv. nv.name.0) values.now) }
     ensures { result ≡ value_in values.now name.0 }
 {
-    for named in values {
-        if named.name.0 == name.0 {
-            return named.value;
-        }
+    match values.binary_search_by_key(&name.0, |named| named.name.0) {
+        Ok(at) => values[at].value,
+        Err(_) => fraction(0),
     }
-    fraction(0)
 }
 
 /// The product of coefficient and value, added to a sum.

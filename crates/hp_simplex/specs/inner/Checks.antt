@@ -1,12 +1,10 @@
 -- What an answer is checked for before it is given.
-use Rattle.std.specs.Prelude.{◌≡◌, ℕ, List, map}
+use Rattle.std.specs.Prelude.{◌≡◌, List, map}
 use Rattle.std.specs.List.{All}
-use Rattle.hp_math.specs.Rational.{ℚ}
-use Rattle.hp_lit.specs.declared.literal.Part.{Part}
 use Rattle.hp_lit.specs.declared.literal.NumLit.{NumLit}
 use Rattle.hp_lit.specs.declared.literal.Lit.TheVariants.{Num}
 use Rattle.hp_lit.specs.declared.valuation.NameValue.{NameValue}
-use Rattle.hp_lit.specs.Truth.{Values, name_value, parts_value, NumIsTrue}
+use Rattle.hp_lit.specs.Truth.{Values, name_value, NumIsTrue}
 use Rattle.hp_lit.specs.Leaf.{IsValidNum}
 use Rattle.hp_descent.specs.Answers.{IsSolution}
 use Rattle.hp_simplex.specs.declared.checks.Attempt.{Attempt}
@@ -15,18 +13,6 @@ use Rattle.hp_simplex.specs.declared.checks.Attempt.TheVariants as attempt
 -- the names have these values
 abbrev pub Agrees : Values → List NameValue → Type 0
 Agrees v values = All (λ nv. name_value v nv.name.0 ≡ nv.value) values
-
--- wherever the names have these values, name n has the value q
-abbrev pub Gives : List NameValue → ℕ → ℚ → Type 0
-Gives values n q = (v : Values) → Agrees v values → name_value v n ≡ q
-
--- wherever the names have these values, the parts add to q
-abbrev pub AddTo : List NameValue → List Part → ℚ → Type 0
-AddTo values parts q = (v : Values) → Agrees v values → parts_value v parts ≡ q
-
--- wherever the names have these values, the literal is true
-abbrev pub Meets : List NameValue → NumLit → Type 0
-Meets values lit = (v : Values) → Agrees v values → NumIsTrue v lit
 
 -- wherever the names have these values, every literal is true
 abbrev pub MeetAll : List NameValue → List NumLit → Type 0
