@@ -57,7 +57,7 @@ fn holds(row: &PtrLit, values: &[NameValue]) -> bool {
 
 /// The number of the inequality and then of the equalities of a conflict, or a 0 and how many names have values. Nothing
 /// where the values don't make the rows true.
-fn asked(alloc: Global, rows: &[PtrLit]) -> Result<List<u32>, AllocError> {
+fn asked(alloc: Global, rows: &[PtrLit]) -> Result<List<usize>, AllocError> {
     let mut numbers = List::new(alloc);
     if rows.len() > 100_000 {
         return Ok(numbers);
@@ -66,13 +66,13 @@ fn asked(alloc: Global, rows: &[PtrLit]) -> Result<List<u32>, AllocError> {
         PtrAnswer::Classes(values) => {
             if rows.iter().all(|row| holds(row, values.as_slice())) {
                 numbers.push(0)?;
-                numbers.push(values.len() as u32)?;
+                numbers.push(values.len())?;
             }
         }
         PtrAnswer::Conflict { ne, path } => {
-            numbers.push(ne)?;
+            numbers.push(ne as usize)?;
             for row in path.as_slice() {
-                numbers.push(*row)?;
+                numbers.push(*row as usize)?;
             }
         }
     }
@@ -80,7 +80,7 @@ fn asked(alloc: Global, rows: &[PtrLit]) -> Result<List<u32>, AllocError> {
 }
 
 /// Pairs, and the numbers of the answer.
-const CASES: [(&[Pair], &[u32]); 11] = [
+const CASES: [(&[Pair], &[usize]); 11] = [
     (&[], &[0, 0]),
     (&[Pair::Same(NULL, NULL)], &[0, 0]),
     (&[Pair::Apart(U, NULL)], &[0, 1]),
