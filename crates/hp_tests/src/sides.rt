@@ -27,12 +27,11 @@ const E: u32 = 4;
 /// i and j of sort idx, and c, d and e of sort num.
 pub fn names(alloc: Global) -> Result<Names, AllocError> {
     let mut names = Names::new(alloc);
-    for name in [b"i", b"j"] {
-        names.add_constant(Text::from_slice(alloc, name)?, Sort::Idx)?;
-    }
-    for name in [b"c", b"d", b"e"] {
-        names.add_constant(Text::from_slice(alloc, name)?, Sort::Num)?;
-    }
+    names.add_constant(Text::from_slice(alloc, b"i")?, Sort::Idx)?;
+    names.add_constant(Text::from_slice(alloc, b"j")?, Sort::Idx)?;
+    names.add_constant(Text::from_slice(alloc, b"c")?, Sort::Num)?;
+    names.add_constant(Text::from_slice(alloc, b"d")?, Sort::Num)?;
+    names.add_constant(Text::from_slice(alloc, b"e")?, Sort::Num)?;
     Ok(names)
 }
 
