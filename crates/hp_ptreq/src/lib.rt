@@ -10,6 +10,3 @@ mod names;
 mod ways;
 
 pub use answer::{PtrAnswer, decide};
-
-#[cfg(test)]
-mod tests;

@@ -51,7 +51,7 @@ fn path(alloc: Global) -> Result<Vec<Lit>, AllocError> {
     Ok(path)
 }
 
-/// A relation, the coefficients of names 0 and 1, and a bound.
+/// A relation, the coefficients of names 0 and 1, and a bound. A name whose coefficient is 0 is left out.
 type Sum = (Rel, i128, i128, i128);
 
 const SUMS: [Sum; 8] = [
@@ -68,10 +68,12 @@ const SUMS: [Sum; 8] = [
 fn sum(alloc: Global, sum: Sum) -> Result<Lit, AllocError> {
     let (rel, first, second, bound) = sum;
     let mut parts = List::new(alloc);
-    parts.push(Part {
-        name: Name(0),
-        coef: first,
-    })?;
+    if first != 0 {
+        parts.push(Part {
+            name: Name(0),
+            coef: first,
+        })?;
+    }
     if second != 0 {
         parts.push(Part {
             name: Name(1),
@@ -81,13 +83,14 @@ fn sum(alloc: Global, sum: Sum) -> Result<Lit, AllocError> {
     Ok(Lit::Num(NumLit { rel, parts, bound }))
 }
 
-/// The sums as literals, and a bound of whole numbers as the ninth.
+/// The sums as literals, a bound of whole numbers as the ninth, and `0 = 1` as the tenth.
 fn sums(alloc: Global) -> Result<Vec<Lit>, AllocError> {
     let mut path = Vec::new(alloc);
     for each in SUMS {
         path.push(sum(alloc, each)?)?;
     }
     path.push(bound(false, ZERO, ZERO, -1))?;
+    path.push(sum(alloc, (Rel::Eq, 0, 0, 1))?)?;
     Ok(path)
 }
 
@@ -110,7 +113,7 @@ fn are_narrow(lits: &[Lit]) -> bool
 /// The number of a literal, and its multiplier.
 type Taken = (u32, i128);
 
-const COMBINATIONS: [(&[Taken], Result<bool, (i128, Op, i128)>); 17] = [
+const COMBINATIONS: [(&[Taken], Result<bool, (i128, Op, i128)>); 19] = [
     (&[(1, 1), (2, 1)], Ok(true)),
     (&[(1, 1), (3, 2)], Ok(true)),
     (&[(1, 1), (3, 1)], Ok(false)),
@@ -122,12 +125,14 @@ const COMBINATIONS: [(&[Taken], Result<bool, (i128, Op, i128)>); 17] = [
     (&[(8, LARGEST)], Err((LARGEST, Op::Times, 2))),
     (&[], Ok(false)),
     (&[(0, 1), (1, 1), (2, 1)], Ok(false)),
-    (&[(1, 1), (2, 1), (10, 1)], Ok(false)),
+    (&[(1, 1), (2, 1), (11, 1)], Ok(false)),
     (&[(1, 1), (2, 1), (9, 1)], Ok(false)),
     (&[(1, 1), (2, 1), (4, 0)], Ok(false)),
     (&[(2, 1), (1, 1)], Ok(false)),
     (&[(1, 1), (1, 1), (2, 2)], Ok(false)),
     (&[(4, -1), (7, 1)], Ok(false)),
+    (&[(10, -LARGEST)], Ok(true)),
+    (&[(10, i128::MIN)], Ok(false)),
 ];
 
 fn wanted(answer: Result<bool, (i128, Op, i128)>) -> Result<bool, Wide> {

@@ -19,11 +19,17 @@ mod literals;
 #[cfg(test)]
 mod numbers;
 #[cfg(test)]
+mod paths;
+#[cfg(test)]
+mod pointers;
+#[cfg(test)]
 mod rows;
 #[cfg(test)]
 mod runs;
 #[cfg(test)]
 mod searches;
+#[cfg(test)]
+mod sides;
 #[cfg(test)]
 mod streams;
 #[cfg(test)]

@@ -153,15 +153,20 @@ fn rising(alloc: Global, count: u32, last: &str) -> Result<String, AllocError> {
     Ok(text)
 }
 
-/// So many fractions, each below 0: one descent over all would take millions of passes.
-fn apart(alloc: Global, count: u32, last: &str) -> Result<String, AllocError> {
-    let mut text = String::from_str(alloc, "const c0")?;
-    for at in 1..count {
+/// A whole number i, fractions a, b, c and d, and so many others that are below 0 or, where there is a choice, above 5.
+/// One descent over all of them would take millions of passes.
+fn apart(alloc: Global, count: u32, choice: bool, last: &str) -> Result<String, AllocError> {
+    let mut text = String::from_str(alloc, "const i: idx; const a, b, c, d")?;
+    for at in 0..count {
         text.push_str(format!(in alloc; ", c{at}")?.as_str())?;
     }
     text.push_str(": num;")?;
     for at in 0..count {
-        text.push_str(format!(in alloc; "query c{at} < 0;")?.as_str())?;
+        text.push_str(format!(in alloc; "query c{at} < 0")?.as_str())?;
+        if choice {
+            text.push_str(format!(in alloc; " | c{at} > 5")?.as_str())?;
+        }
+        text.push_str(";")?;
     }
     text.push_str(last)?;
     Ok(text)
@@ -175,12 +180,49 @@ fn many_bounds(rt: HostRuntime) -> Result<(), Fail> {
         (ring(alloc, 1_898)?, 20),
         (rising(alloc, 40, "")?, 10),
         (rising(alloc, 40, "query c39 < c0;")?, 20),
-        (apart(alloc, 24, "")?, 10),
-        (apart(alloc, 24, "query 0 < c6;")?, 20),
+        (apart(alloc, 24, false, "")?, 10),
+        (apart(alloc, 24, false, "query 0 < c6;")?, 20),
     ];
     for (text, status) in cases {
         let (found, _) = answer(rt.alloc(), "solve", text.as_bytes())?;
         assert_eq!(rt; found, status);
+    }
+    Ok(())
+}
+
+/// The one value of d has 54 digits.
+const LONG_VALUE: &str =
+    "query a = 1; query b = 999999999999999999 * a; query c = 999999999999999999 * b; query d = 999999999999999999 * c;";
+
+/// How many other fractions there are, whether each has a choice, the last clauses, the status, and the front of what is
+/// written.
+type Beside = (u32, bool, &'static str, u8, &'static [u8]);
+
+const BESIDE: [Beside; 8] = [
+    (0, false, "", 9, b"overflow path "),
+    (16, false, "", 9, b"overflow path "),
+    (60, false, "", 9, b"overflow path "),
+    (1_990, false, "", 9, b"overflow path "),
+    (16, true, "", 9, b"overflow path "),
+    (60, true, "", 9, b"overflow path "),
+    (60, false, "query c6 > 0;", 20, b"unsatisfiable\n"),
+    (
+        60,
+        true,
+        "query i = 5; query i <= 4;",
+        20,
+        b"unsatisfiable\n",
+    ),
+];
+
+#[test]
+fn long_values_beside_others(rt: HostRuntime) -> Result<(), Fail> {
+    for (count, choice, last, status, front) in BESIDE {
+        let mut text = apart(rt.alloc(), count, choice, LONG_VALUE)?;
+        text.push_str(last)?;
+        let (found, written) = answer(rt.alloc(), "solve", text.as_bytes())?;
+        assert_eq!(rt; found, status, "{count} others");
+        assert!(rt; written.as_slice().starts_with(front), "{count} others");
     }
     Ok(())
 }

@@ -5,6 +5,7 @@ use hp_descent::{
 };
 use hp_lit::{Name, NameValue, NumLit, Part, Rel, Share, Valuation};
 use hp_num::{Frac, List, Op, Wide};
+use hp_simplex::{Attempt, attempt};
 use std::alloc::{AllocError, Global};
 use std::cmp::Ordering;
 use std::test::Fail;
@@ -65,7 +66,8 @@ fn asked(alloc: Global, sides: &[Sides]) -> Result<ChainAnswer, DescentErr> {
     }
 }
 
-/// The answer of the simplex, and want of memory where a literal isn't as it should be.
+/// The answer of the simplex, and of the descent where that gives up, and want of memory where a literal isn't as it
+/// should be.
 fn asked_simplex(alloc: Global, sides: &[Sides]) -> Result<NumAnswer, DescentErr> {
     let lits = literals(alloc, sides)?;
     if are_fit(lits.as_slice()) {
@@ -92,7 +94,19 @@ fn descended(alloc: Global, sides: &[Sides]) -> Result<List<i128>, AllocError> {
     Ok(numbers)
 }
 
-/// The values or shares of the simplex's answer.
+/// The values or shares of the simplex's answer, nothing where it gives up.
+fn attempted(alloc: Global, sides: &[Sides]) -> Result<List<i128>, AllocError> {
+    let mut numbers = List::new(alloc);
+    let lits = literals(alloc, sides)?;
+    match attempt(alloc, lits.as_slice())? {
+        Attempt::Point(values) => push_values(&mut numbers, values.as_slice())?,
+        Attempt::Farkas(shares) => push_shares(&mut numbers, shares.as_slice())?,
+        Attempt::Unknown => {}
+    }
+    Ok(numbers)
+}
+
+/// The values or shares of the answer of the simplex or the descent.
 fn pivoted(alloc: Global, sides: &[Sides]) -> Result<List<i128>, AllocError> {
     let mut numbers = List::new(alloc);
     let answer = asked_simplex(alloc, sides);
@@ -133,7 +147,7 @@ const DESCENDED: [Case; 4] = [
     ),
 ];
 
-const PIVOTED: [Case; 7] = [
+const PIVOTED: [Case; 6] = [
     // c <= 0 and -c < 0
     (
         &[(Rel::Le, &[(3, 1)], 0), (Rel::Lt, &[(3, -1)], 0)],
@@ -171,15 +185,17 @@ const PIVOTED: [Case; 7] = [
         &[(Rel::Eq, &[(7, 3)], -2), (Rel::Eq, &[(4, 2)], 1)],
         &[4, 1, 2, 7, -2, 3],
     ),
-    // 2^126 c + d <= -1 and (2^126 - 1) c + 2^126 d <= 0: without c, the second is a multiple of d that is too long
-    (
-        &[
-            (Rel::Le, &[(0, HALF), (1, 1)], -1),
-            (Rel::Le, &[(0, HALF - 1), (1, HALF)], 0),
-        ],
-        &[0, -1, HALF, 1, 0, 1],
-    ),
 ];
+
+/// 2^126 c + d <= -1 and (2^126 - 1) c + 2^126 d <= 0: without c, the second is a multiple of d that is too long for the
+/// simplex, and c is no multiple of 1/64.
+const GIVEN_UP: Case = (
+    &[
+        (Rel::Le, &[(0, HALF), (1, 1)], -1),
+        (Rel::Le, &[(0, HALF - 1), (1, HALF)], 0),
+    ],
+    &[0, -1, HALF, 1, 0, 1],
+);
 
 #[test]
 fn points_and_shares(rt: HostRuntime) -> Result<(), Fail> {
@@ -190,7 +206,12 @@ fn points_and_shares(rt: HostRuntime) -> Result<(), Fail> {
     for (sides, wanted) in PIVOTED {
         let numbers = pivoted(rt.alloc(), sides)?;
         assert_eq!(rt; numbers.as_slice(), wanted);
+        let numbers = attempted(rt.alloc(), sides)?;
+        assert_eq!(rt; numbers.as_slice(), wanted);
     }
+    let (sides, wanted) = GIVEN_UP;
+    assert_eq!(rt; pivoted(rt.alloc(), sides)?.as_slice(), wanted);
+    assert_eq!(rt; attempted(rt.alloc(), sides)?.len(), 0);
     Ok(())
 }
 

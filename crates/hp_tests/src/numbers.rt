@@ -1,6 +1,6 @@
 //! Exact arithmetic at the edges of 128 bits, and lists.
 
-use hp_num::{Frac, List, Op, Text, Wide, minus, plus, times, whole_mul_sub};
+use hp_num::{Frac, List, Op, Text, Whole, Wide, gcd, minus, plus, times, whole_mul_sub};
 use std::cmp::Ordering;
 use std::test::Fail;
 
@@ -76,6 +76,7 @@ fn fractions(rt: HostRuntime) {
     let reduced = Frac::new(-4, 6);
     assert_eq!(rt; (reduced.num(), reduced.den()), (-2, 3));
     assert_eq!(rt; reduced.negated(), Frac::new(2, 3));
+    assert_eq!(rt; Frac::whole(Whole::new(-7)), Frac::new(-7, 1));
 }
 
 /// Fractions of which the first is less, but for the last pair; most cross products pass 128 bits.
@@ -109,6 +110,13 @@ fn whole_numbers(rt: HostRuntime) {
     assert_eq!(rt; minus(-LARGEST, 1), wide(-LARGEST, Op::Minus, 1));
     assert_eq!(rt; minus(0, LARGEST), Ok(-LARGEST));
     assert_eq!(rt; whole_mul_sub(2, 3, 4, 5), Ok(-14));
+    let two = Whole::new(2);
+    assert_eq!(rt;
+        Whole::mul_sub(two, two, Whole::new(3), two),
+        Ok(Whole::new(-2))
+    );
+    assert_eq!(rt; gcd(12, 18), 6);
+    assert_eq!(rt; gcd(0, 5), 5);
     assert_eq!(rt;
         whole_mul_sub(2, 3, LONG, LONG),
         wide(LONG, Op::Times, LONG)
@@ -129,11 +137,16 @@ fn lists_and_texts_hold_what_was_pushed(rt: HostRuntime) -> Result<(), Fail> {
     assert_eq!(rt; *list.get(1), 9);
     assert_eq!(rt; list.pop(), Some(7));
     assert_eq!(rt; list.as_slice(), [5, 9].as_slice());
+    let again = List::from_slice(rt.alloc(), list.as_slice())?;
+    assert_eq!(rt; again.as_slice(), [5, 9].as_slice());
     let mut text = Text::from_slice(rt.alloc(), b"ab")?;
     let copy = text.copy(rt.alloc())?;
     text.push(b'c')?;
     text.extend_from_slice(b"de")?;
     assert_eq!(rt; text.as_slice(), b"abcde".as_slice());
     assert_eq!(rt; copy.as_slice(), b"ab".as_slice());
+    let mut roomy = Text::with_capacity(rt.alloc(), 2)?;
+    roomy.extend_from_slice(b"abc")?;
+    assert_eq!(rt; roomy.as_slice(), b"abc".as_slice());
     Ok(())
 }
