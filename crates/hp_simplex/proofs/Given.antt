@@ -10,7 +10,7 @@ use Rattle.hp_descent.specs.Values.{IsTrueAmong}
 use Rattle.hp_descent.proofs.Rising.{among_names}
 use Rattle.hp_descent.proofs.Truth.{AllAmong, among_split, all_in}
 use Rattle.hp_descent.proofs.Lookup.{names_of, given_parts}
-use Rattle.hp_simplex.specs.inner.Checks.{MeetAll}
+use Rattle.hp_simplex.specs.Checks.{MeetAll}
 
 -- the names of one of the literals
 one_of : (ns : List ℕ) (lits : List NumLit) (i : ℕ) (d : NumLit) → AllAmong ns (mentioned lits) → i < length lits → AllAmong ns (part_names (get_or lits i d).parts)

@@ -2,7 +2,7 @@
 ghost use Rattle.std.specs.Prelude.{◌≡◌, List, IfOk, map, true};
 ghost use Rattle.hp_lit.specs.declared.literal.Lit.TheVariants.{Num};
 ghost use Rattle.hp_descent.specs.Columns.{columns};
-ghost use Rattle.hp_simplex.specs.inner.Checks.{IsRight, MeetAll};
+ghost use Rattle.hp_simplex.specs.Checks.{IsRight, MeetAll};
 
 use hp_descent::{are_fit, holds_among};
 use hp_farkas::check_num;

@@ -3,7 +3,7 @@
 ghost use Rattle.std.specs.Prelude.{◌≡◌, IfOk, IfSome, map};
 ghost use Rattle.hp_descent.specs.Answers.{Decides};
 ghost use Rattle.hp_descent.specs.Columns.{AreNumFit, columns};
-ghost use Rattle.hp_simplex.specs.inner.Checks.{IsRight};
+ghost use Rattle.hp_simplex.specs.Checks.{IsRight};
 
 use crate::bounds::bounds_of;
 use crate::checks::{Attempt, checked_shares, checked_values};

@@ -2,7 +2,7 @@ use Rattle.std.proofs.Common.{arith, ap, subst, ◌∙◌, Ok}
 use Rattle.std.proofs.lemmas.List.{take_all}
 use Rattle.hp_descent.specs.Values.{IsTrueAmong}
 use Rattle.hp_descent.proofs.Lookup.{rising_names}
-use Rattle.hp_simplex.specs.inner.Checks.{MeetAll}
+use Rattle.hp_simplex.specs.Checks.{MeetAll}
 use Rattle.hp_simplex.proofs.Given.{more_are_true}
 use Rattle.hp_simplex.proofs.checks.satisfies.Goals as goal
 

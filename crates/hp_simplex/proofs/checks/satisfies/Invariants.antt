@@ -1,5 +1,5 @@
 use Rattle.std.proofs.Common.{take}
-use Rattle.hp_simplex.specs.inner.Checks.{MeetAll}
+use Rattle.hp_simplex.specs.Checks.{MeetAll}
 use Rattle.hp_simplex.proofs.checks.satisfies.Given as goal
 
 abbrev pub invariant-loop-at : goal.invariant-loop-at
