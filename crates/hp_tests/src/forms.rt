@@ -110,12 +110,11 @@ fn expect_printed(
 fn parentheses_of_each_term_at_each_place(rt: HostRuntime) -> Result<(), Fail> {
     for [whole, operand, factor] in TERMS {
         for (at, place) in PLACES.into_iter().enumerate() {
-            let printed = match at {
-                0..=2 => whole,
-                3..=5 => operand,
-                _ => factor,
-            };
-            expect_printed(&rt, rt.alloc(), place, whole, printed)?;
+            match at {
+                0..=2 => expect_printed(&rt, rt.alloc(), place, whole, whole)?,
+                3..=5 => expect_printed(&rt, rt.alloc(), place, whole, operand)?,
+                _ => expect_printed(&rt, rt.alloc(), place, whole, factor)?,
+            }
         }
     }
     Ok(())
