@@ -5,7 +5,7 @@ use Rattle.std.proofs.lemmas.List.Elements.{All-more}
 use Rattle.hp_defs.specs.Names.{sorts}
 use Rattle.hp_lit.specs.declared.line.Line.{Line}
 use Rattle.hp_search.specs.Lines.{AreBuilt}
-use Rattle.hp_tests.proofs.searches.are_lines.Goals as goal
+use Rattle.hp_unit_tests.proofs.searches.are_lines.Goals as goal
 
 pub loop-line-preserved : goal.loop-line-preserved
 loop-line-preserved c =

@@ -1,5 +1,5 @@
 use Rattle.hp_descent.proofs.Located.{solution_holds}
-use Rattle.hp_tests.proofs.literals.asked_at.Goals as goal
+use Rattle.hp_unit_tests.proofs.literals.asked_at.Goals as goal
 
 pub value_at-requires-clause-chain : goal.value_at-requires-clause-chain
 value_at-requires-clause-chain c =

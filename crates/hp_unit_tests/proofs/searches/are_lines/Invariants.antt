@@ -3,7 +3,7 @@ use Rattle.std.specs.List.{All}
 use Rattle.hp_defs.specs.Names.{sorts}
 use Rattle.hp_lit.specs.declared.line.Line.{Line}
 use Rattle.hp_search.specs.Lines.{AreBuilt}
-use Rattle.hp_tests.proofs.searches.are_lines.Given as goal
+use Rattle.hp_unit_tests.proofs.searches.are_lines.Given as goal
 
 abbrev pub invariant-loop-line : goal.invariant-loop-line
 invariant-loop-line l = All (λ (line : Line). AreBuilt (sorts l.names) line.lits) (take l.line-index l.lines)
