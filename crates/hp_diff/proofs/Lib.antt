@@ -2,9 +2,7 @@ pub mod Relaxing
 pub mod Rounds
 pub mod Repeats
 pub mod Settling
-pub mod Mentions
 pub mod Steps
 pub mod Points
 pub mod Building
-pub mod Finding
 pub mod Shown

@@ -1,9 +1,7 @@
 -- Values of nodes as values of names: they make the rows true of which the edges are.
-use Rattle.std.proofs.Common.{◌≡◌, ℕ, zero, suc, ◌+◌, ◌^◌, ◌<◌, ◌≤◌, inl, inr, List, [], ◌∷◌, ◌++◌, length, take, get_or, refl, sym, ap, subst, ◌∙◌, arith, add-one, ℤ, pos, neg_ℤ, ◌+ℤ◌, ◌-ℤ◌, ◌≤ℤ◌, Bool, true, false, eq-eqb}
+use Rattle.std.proofs.Common.{◌≡◌, ℕ, ◌+◌, ◌^◌, ◌<◌, ◌≤◌, inl, inr, List, length, get_or, refl, sym, ap, subst, ◌∙◌, arith, ℤ, pos, neg_ℤ, ◌+ℤ◌, ◌-ℤ◌, ◌≤ℤ◌, Bool, true, false, eq-eqb}
 use Rattle.std.proofs.lemmas.Int.{ints}
-use Rattle.std.proofs.lemmas.List.{get_or-map, length-map, length-take, map-append, take_more, get_or_append_left, get_or_default}
-use Rattle.std.proofs.Math.Seq.{get_or-append_seam}
-use Rattle.std.proofs.lemmas.Bool.{cases_lt}
+use Rattle.std.proofs.lemmas.List.{get_or_default}
 use Rattle.std.specs.List.{All, Contains}
 use Rattle.std.specs.List.Sorted.{IsStrictlyIncreasing}
 use Rattle.hp_math.specs.Rational.{ℚ, ratio, whole, ◌-ℚ◌, ◌≤ℚ◌, ◌+ℚ◌}
@@ -11,11 +9,14 @@ use Rattle.hp_math.proofs.Rational.{ratio-neg, ratio-+, ratio-≤, ratio-inj, ra
 use Rattle.hp_lit.specs.declared.literal.IdxLit.{IdxLit}
 use Rattle.hp_lit.specs.declared.valuation.NameValue.{NameValue}
 use Rattle.hp_lit.specs.Truth.{Values, name_value, optional_value, IdxIsTrue}
+use Rattle.hp_nodes.specs.Nodes.{AreNamedValues, AreNames, name_at}
+use Rattle.hp_nodes.proofs.Mentions.{names_few}
+use Rattle.hp_nodes.proofs.Values.{same_length, value_of_node}
 use Rattle.hp_diff.specs.declared.edges.Edge.{Edge}
 use Rattle.hp_diff.specs.inner.Labels.{edge_at}
 use Rattle.hp_diff.specs.inner.Settled.{value_at, AreValues}
 use Rattle.hp_diff.specs.Rows.{IsPoint, IsSmallWhole, mentioned}
-use Rattle.hp_diff.specs.inner.Edges.{AreNames, AreEdges, AreNamedValues, IsCovered, IsOver, name_at}
+use Rattle.hp_diff.specs.inner.Edges.{AreEdges, IsCovered, IsOver, offset_at}
 
 whole_difference : (a b : ℤ) → whole a -ℚ whole b ≡ whole (a -ℤ b)
 unfolding whole
@@ -39,45 +40,14 @@ small_whole n low high =
       high = subst (λ m. m ≤ℤ pos (10 ^ 37)) (sym kept.0) high;
     }
 
--- one name more with its value
-pub next_named : (names : List ℕ) (values : List ℤ) (named : List NameValue) (at : ℕ) (item : NameValue) → at < length names → item.name.0 ≡ get_or names at 0
-    → item.value ≡ whole (value_at values (at + 1) -ℤ value_at values 0) → AreNamedValues (take at names) values named → AreNamedValues (take (at + 1) names) values (named ++ item ∷ [])
-next_named names values named at item h name value n =
-    let number = λ (nv : NameValue). nv.name.0 in
-    let size : length named ≡ at = sym (length-map named number) ∙ ap length n.same ∙ length-take at names ∙ omega arith in
-    record {
-      same = map-append number named (item ∷ []) ∙ (λ i. n.same i ++ name i ∷ []) ∙ sym (take_more names at 0 h);
-      value = λ k d k_in. elim (cases_lt k at) [
-        | inl l ↦
-            (let inside : k < length named = omega (arith, size) in
-            let before : k < length (take at names) = omega (arith, length-take at names) in
-            ap (λ (nv : NameValue). nv.value) (get_or_append_left named (item ∷ []) d k inside) ∙ n.value k d before)
-        | inr l ↦
-            (let is : k ≡ length named = omega (arith, size, length-take (at + 1) names) in
-            let last : get_or (named ++ item ∷ []) k d ≡ item = ap (λ j. get_or (named ++ item ∷ []) j d) is ∙ get_or-append_seam named item [] d in
-            ap (λ (nv : NameValue). nv.value) last ∙ value ∙ ap (λ j. whole (value_at values (j + 1) -ℤ value_at values 0)) (sym (is ∙ size)))
-      ];
-    }
-
-module _ (names : List ℕ) (values : List ℤ) (named : List NameValue) (n : AreNamedValues names values named) where
+module _ (names : List ℕ) (values : List ℤ) (named : List NameValue) (n : AreNamedValues names (offset_at values) named) where
   abbrev base : ℤ
   base = value_at values 0
-
-  same_length : length named ≡ length names
-  same_length = sym (length-map named (λ nv. nv.name.0)) ∙ ap length n.same
-
-  name_of_item : (k : ℕ) (d : NameValue) → k < length names → (get_or named k d).name.0 ≡ get_or names k 0
-  name_of_item k d h =
-      let inside : k < length named = omega (arith, same_length) in
-      sym (get_or-map (λ (nv : NameValue). nv.name.0) named k d 0 inside) ∙ ap (λ ns. get_or ns k 0) n.same
 
   -- what a valuation that agrees gives the name of a node
   node_value : (v : Values) → All (λ nv. name_value v nv.name.0 ≡ nv.value) named → (d : NameValue) (x : ℕ) → x ≤ length names
       → optional_value v (name_at names x) ≡ whole (value_at values x -ℤ base)
-  node_value v all d zero h = ap whole (omega (arith, ints))
-  node_value v all d (suc k) h =
-      let inside : k < length named = omega (arith, same_length) in
-      ap (name_value v) (sym (name_of_item k d (omega arith))) ∙ all k d inside ∙ n.value k d (omega arith) ∙ ap (λ x. whole (value_at values x -ℤ base)) (add-one k)
+  node_value v all d x h = value_of_node names (offset_at values) named n (ap whole (omega (arith, ints))) v all d x h
 
   module _ (edges : List Edge) (a : AreValues (length names + 1) edges values) (v : Values) (all : All (λ nv. name_value v nv.name.0 ≡ nv.value) named) (d : NameValue) where
     abbrev difference : IdxLit → ℚ
@@ -122,19 +92,19 @@ module _ (names : List ℕ) (values : List ℤ) (named : List NameValue) (n : Ar
     pub all_true : (rows : List IdxLit) → AreEdges names rows edges → All (IdxIsTrue v) rows
     all_true rows e k row h = row_true (get_or rows k row) (e.cover k row h) (get_or rows k row).exact refl
 
-pub is_point : (rows : List IdxLit) (names : List ℕ) (edges : List Edge) (values : List ℤ) (named : List NameValue) → length rows ≤ 100000 → AreNames rows names
-    → AreEdges names rows edges → AreValues (length names + 1) edges values → AreNamedValues names values named → IsPoint rows named
+pub is_point : (rows : List IdxLit) (names : List ℕ) (edges : List Edge) (values : List ℤ) (named : List NameValue) → length rows ≤ 100000 → AreNames (mentioned rows) names
+    → AreEdges names rows edges → AreValues (length names + 1) edges values → AreNamedValues names (offset_at values) named → IsPoint rows named
 is_point rows names edges values named few ns es vs n = record {
   named = subst (λ xs. All (Contains xs) (mentioned rows)) (sym n.same) ns.all;
   only = subst (λ xs. All (Contains (mentioned rows)) xs) (sym n.same) ns.only;
   rising = subst IsStrictlyIncreasing (sym n.same) ns.rising;
   small = λ k d h.
-      (let k_in : k < length names = omega (arith, same_length names values named n) in
+      (let k_in : k < length names = omega (arith, same_length names (offset_at values) named n) in
       let low = vs.low (k + 1) (omega arith) in
       let high = vs.high (k + 1) (omega arith) in
       let low_base = vs.low 0 (omega arith) in
       let high_base = vs.high 0 (omega arith) in
-      let count = ns.few in
+      let count = names_few IdxLit (λ row. row.left) (λ row. row.right) rows names ns in
       subst IsSmallWhole (sym (n.value k d k_in)) (small_whole _ (omega (arith, ints)) (omega (arith, ints))));
   keeps = λ v all. all_true names values named n edges vs v all (record { name = record { 0 = 0 }; value = whole (pos 0) }) rows es;
 }

@@ -10,7 +10,8 @@ use Rattle.hp_lit.specs.Cycle.{turned, AreRowsOf, Leads, bound_sum, IsValidIdx}
 use Rattle.hp_diff.specs.declared.edges.Edge.{Edge}
 use Rattle.hp_diff.specs.inner.Labels.{edge_at}
 use Rattle.hp_diff.specs.inner.Cycles.{Walk, weight, IsNegativeCycle}
-use Rattle.hp_diff.specs.inner.Edges.{IsEdgeOf, name_at, step_at}
+use Rattle.hp_nodes.specs.Nodes.{name_at}
+use Rattle.hp_diff.specs.inner.Edges.{IsEdgeOf, step_at}
 
 pub walk_within : (edges : List Edge) (ks : List ℕ) (a b : ℕ) → Walk edges a ks b → All (λ k. k < length edges) ks
 walk_within edges [] a b w = All-nil (λ k. k < length edges)

@@ -1,30 +1,21 @@
 -- Rows: bounds on differences of named whole numbers, and values that keep them.
-use Rattle.std.specs.Prelude.{◌≡◌, ℕ, ◌^◌, List, [], ◌∷◌, ◌++◌, ℤ, pos, ◌+ℤ◌, ◌≤ℤ◌, Option, Some, None, map, true}
+use Rattle.std.specs.Prelude.{◌≡◌, ℕ, List, pos, ◌+ℤ◌, ◌≤ℤ◌, map, true}
 use Rattle.std.specs.List.{All, Contains}
 use Rattle.std.specs.List.Sorted.{IsStrictlyIncreasing}
 use Rattle.hp_math.specs.Rational.{ℚ, is_whole}
 use Rattle.hp_tree.specs.Limits.{largest_value}
-use Rattle.hp_lit.specs.declared.literal.Name.{Name}
 use Rattle.hp_lit.specs.declared.literal.IdxLit.{IdxLit}
 use Rattle.hp_lit.specs.declared.literal.Lit.TheVariants.{Idx}
 use Rattle.hp_lit.specs.declared.valuation.NameValue.{NameValue}
 use Rattle.hp_lit.specs.Truth.{Values, name_value, IdxIsTrue}
 use Rattle.hp_lit.specs.Cycle.{IsValidIdx}
+use Rattle.hp_nodes.specs.Nodes.{mentioned_by, names_of}
 use Rattle.hp_diff.specs.declared.answer.DiffAnswer.{DiffAnswer}
 use Rattle.hp_diff.specs.declared.answer.DiffAnswer.TheVariants.{Point, Cycle}
 
-abbrev pub number_of : Option Name → List ℕ
-number_of None = []
-number_of (Some name) = name.0 ∷ []
-
 -- the names that the rows mention, each as often as it stands in them
 abbrev pub mentioned : List IdxLit → List ℕ
-mentioned [] = []
-mentioned (row ∷ rows) = number_of row.left ++ number_of row.right ++ mentioned rows
-
--- the names that are given a value, in order
-abbrev pub names_of : List NameValue → List ℕ
-names_of values = map (λ nv. nv.name.0) values
+mentioned rows = mentioned_by (λ row. row.left) (λ row. row.right) rows
 
 -- a whole number of a magnitude of at most 10^37
 pub record IsSmallWhole (q : ℚ) : Type 0 where

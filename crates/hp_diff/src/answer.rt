@@ -3,8 +3,9 @@ ghost use Rattle.std.specs.Prelude.{◌≡◌, ◌≤◌, ◌<◌, ◌+◌, ◌-
 ghost use Rattle.std.specs.List.{All};
 ghost use Rattle.hp_math.specs.Rational.{whole};
 ghost use Rattle.hp_tree.specs.Limits.{most_rows, largest_value};
-ghost use Rattle.hp_diff.specs.inner.Edges.{AreEdges, AreNamedValues, AreNames, step_at};
-ghost use Rattle.hp_diff.specs.Rows.{IsDiffAnswer};
+ghost use Rattle.hp_nodes.specs.Nodes.{AreNamedValues, AreNames};
+ghost use Rattle.hp_diff.specs.inner.Edges.{AreEdges, offset_at, step_at};
+ghost use Rattle.hp_diff.specs.Rows.{IsDiffAnswer, mentioned};
 ghost use Rattle.hp_lit.specs.Fit.{IsSmallBound};
 ghost use Rattle.hp_diff.specs.inner.Settled.{AreValues, value_at};
 
@@ -52,7 +53,7 @@ fn named_values(
 ) -> Result<List<NameValue>, AllocError>
     requires few { length names.now ≤ 200000 }
     requires values { AreValues (length names.now + 1) edges.now values.now }
-    ensures { IfOk result (λ named. AreNamedValues names.now values.now named) }
+    ensures { IfOk result (λ named. AreNamedValues names.now (offset_at values.now) named) }
 {
     let mut named = List::new(alloc);
     for (at, name) in names.iter().enumerate() {
@@ -89,7 +90,7 @@ fn answer_of(
 ) -> Result<DiffAnswer, AllocError>
     requires few { length rows.now ≤ most_rows }
     requires bounds { All (λ row. IsSmallBound row.bound) rows.now }
-    requires names { AreNames rows.now names.now }
+    requires names { AreNames (mentioned rows.now) names.now }
     requires edges { AreEdges names.now rows.now edges.now }
     ensures { IfOk result (λ answer. IsDiffAnswer rows.now answer) }
 {

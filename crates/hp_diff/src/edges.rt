@@ -4,11 +4,12 @@ ghost use Rattle.std.specs.List.{All};
 ghost use Rattle.std.specs.List.Sorted.{IsStrictlyIncreasing};
 ghost use Rattle.hp_tree.specs.Limits.{most_rows};
 ghost use Rattle.hp_lit.specs.Cycle.{turned};
-ghost use Rattle.hp_diff.specs.inner.Edges.{AreEdges, IsNamed, IsOver};
+ghost use Rattle.hp_nodes.specs.Nodes.{IsNamed};
+ghost use Rattle.hp_diff.specs.inner.Edges.{AreEdges, IsOver};
 ghost use Rattle.hp_lit.specs.Fit.{IsSmallBound};
 
-use crate::names::node_of;
 use hp_lit::IdxLit;
+use hp_nodes::node_of;
 use std::alloc::{AllocError, Global};
 
 /// The value at `to` is at most the value at `from` plus the bound. The edge stands for the row of that number, counted

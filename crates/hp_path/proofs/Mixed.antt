@@ -17,7 +17,8 @@ use Rattle.hp_lit.specs.declared.valuation.NameValue.{NameValue}
 use Rattle.hp_lit.specs.Sorts.{AreOfSorts}
 use Rattle.hp_lit.specs.Truth.{Values, name_value, IsTrueAt, IdxIsTrue, NumIsTrue}
 use Rattle.hp_diff.specs.Rows as rows
-use Rattle.hp_diff.specs.Rows.{IsPoint, names_of, number_of}
+use Rattle.hp_diff.specs.Rows.{IsPoint}
+use Rattle.hp_nodes.specs.Nodes.{names_of, number_of}
 use Rattle.hp_lit.specs.Fit.{IsSmallBound}
 use Rattle.hp_descent.specs.Columns.{AreNumFit, columns, mentioned}
 use Rattle.hp_lit.specs.Fit.{IsNumFit, part_names}

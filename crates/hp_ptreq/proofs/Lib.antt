@@ -1,5 +1,3 @@
-pub mod Mentions
-pub mod Finding
 pub mod Trees
 pub mod Joining
 pub mod Labels

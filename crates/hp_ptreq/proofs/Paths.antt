@@ -14,7 +14,8 @@ use Rattle.hp_ptreq.specs.declared.answer.Clash.{Clash}
 use Rattle.hp_ptreq.specs.declared.classes.Join.{Join}
 use Rattle.hp_ptreq.specs.inner.Built.{IsClash}
 use Rattle.hp_ptreq.specs.inner.Classes.{join_at}
-use Rattle.hp_ptreq.specs.inner.Nodes.{IsJoin, name_at}
+use Rattle.hp_nodes.specs.Nodes.{name_at}
+use Rattle.hp_ptreq.specs.inner.Nodes.{IsJoin}
 use Rattle.hp_ptreq.specs.inner.Ways.{IsHop, IsWithin, Way}
 
 row_at : (rows : List PtrLit) (k : ℕ) (row : PtrLit) → slice_get rows k ≡ Some row → slice_get (map Ptr rows) k ≡ Some (Ptr row)

@@ -1,12 +1,10 @@
 -- Labels of nodes as values of names: they make the rows true.
-use Rattle.std.proofs.Common.{◌≡◌, ℕ, zero, suc, ◌+◌, ◌<◌, ◌≤◌, inl, inr, List, [], ◌∷◌, ◌++◌, length, take, get_or, refl, sym, ap, subst, ◌∙◌, arith, add-one, pos, Bool, true, false, eq-eqb, Some}
+use Rattle.std.proofs.Common.{◌≡◌, ℕ, ◌+◌, ◌≤◌, List, length, take, get_or, refl, sym, ap, subst, ◌∙◌, arith, pos, Bool, true, false, eq-eqb, Some}
 use Rattle.std.specs.Prelude.{slice_get}
 use Rattle.std.proofs.lemmas.Int.{ints}
-use Rattle.std.proofs.lemmas.List.{get_or-map, length-map, length-take, map-append, take_more, take_all, get_or_append_left}
+use Rattle.std.proofs.lemmas.List.{take_more, take_all}
 use Rattle.std.proofs.lemmas.List.Elements.{All-push}
 use Rattle.std.proofs.lemmas.Option.{slice_get_within, get_or_from_slice_get}
-use Rattle.std.proofs.Math.Seq.{get_or-append_seam}
-use Rattle.std.proofs.lemmas.Bool.{cases_lt}
 use Rattle.std.specs.List.{All, Contains}
 use Rattle.std.specs.List.Sorted.{IsStrictlyIncreasing}
 use Rattle.hp_math.specs.Rational.{ratio, whole}
@@ -16,11 +14,13 @@ use Rattle.hp_lit.specs.declared.literal.PtrLit.{PtrLit}
 use Rattle.hp_lit.specs.declared.valuation.NameValue.{NameValue}
 use Rattle.hp_lit.specs.Sorts.{IsOfSort}
 use Rattle.hp_lit.specs.Truth.{Values, name_value, optional_value, PtrIsTrue}
+use Rattle.hp_nodes.specs.Nodes.{AreNamedValues, AreNames, name_at}
+use Rattle.hp_nodes.proofs.Values.{same_length, value_of_node}
 use Rattle.hp_ptreq.specs.Rows.{ArePointers, mentioned}
 use Rattle.hp_ptreq.specs.declared.classes.Classes.{Classes}
 use Rattle.hp_ptreq.specs.inner.Built.{AreClasses, IsApart, IsKept}
 use Rattle.hp_ptreq.specs.inner.Classes.{AreLabels, label_at}
-use Rattle.hp_ptreq.specs.inner.Nodes.{AreNames, AreNamedValues, AtNodes, name_at}
+use Rattle.hp_ptreq.specs.inner.Nodes.{AtNodes, label_value}
 use Rattle.hp_ptreq.proofs.Labels.{labels_level}
 
 whole_same : (a b : ℕ) → whole (pos a) ≡ whole (pos b) → a ≡ b
@@ -44,42 +44,11 @@ pub next_together : (names : List ℕ) (rows : List PtrLit) (labels : List ℕ) 
     → All (IsApart names labels) (take (at + 1) rows)
 next_together names rows labels at row is same all = next_apart names rows labels at row is all (λ e. absurd (cc))
 
--- one name more with its value
-pub next_named : (names labels : List ℕ) (named : List NameValue) (at : ℕ) (item : NameValue) → at < length names → item.name.0 ≡ get_or names at 0
-    → item.value ≡ whole (pos (label_at labels (at + 1))) → AreNamedValues (take at names) labels named → AreNamedValues (take (at + 1) names) labels (named ++ item ∷ [])
-next_named names labels named at item h name value n =
-    let number = λ (nv : NameValue). nv.name.0 in
-    let size : length named ≡ at = sym (length-map named number) ∙ ap length n.same ∙ length-take at names ∙ omega arith in
-    record {
-      same = map-append number named (item ∷ []) ∙ (λ i. n.same i ++ name i ∷ []) ∙ sym (take_more names at 0 h);
-      value = λ k d k_in. elim (cases_lt k at) [
-        | inl l ↦
-            (let inside : k < length named = omega (arith, size) in
-            let before : k < length (take at names) = omega (arith, length-take at names) in
-            ap (λ (nv : NameValue). nv.value) (get_or_append_left named (item ∷ []) d k inside) ∙ n.value k d before)
-        | inr l ↦
-            (let is : k ≡ length named = omega (arith, size, length-take (at + 1) names) in
-            let last : get_or (named ++ item ∷ []) k d ≡ item = ap (λ j. get_or (named ++ item ∷ []) j d) is ∙ get_or-append_seam named item [] d in
-            ap (λ (nv : NameValue). nv.value) last ∙ value ∙ ap (λ j. whole (pos (label_at labels (j + 1)))) (sym (is ∙ size)))
-      ];
-    }
-
-module _ (names labels : List ℕ) (named : List NameValue) (n : AreNamedValues names labels named) (null : label_at labels 0 ≡ 0) where
-  same_length : length named ≡ length names
-  same_length = sym (length-map named (λ nv. nv.name.0)) ∙ ap length n.same
-
-  name_of_item : (k : ℕ) (d : NameValue) → k < length names → (get_or named k d).name.0 ≡ get_or names k 0
-  name_of_item k d h =
-      let inside : k < length named = omega (arith, same_length) in
-      sym (get_or-map (λ (nv : NameValue). nv.name.0) named k d 0 inside) ∙ ap (λ ns. get_or ns k 0) n.same
-
+module _ (names labels : List ℕ) (named : List NameValue) (n : AreNamedValues names (label_value labels) named) (null : label_at labels 0 ≡ 0) where
   module _ (v : Values) (all : All (λ nv. name_value v nv.name.0 ≡ nv.value) named) (d : NameValue) where
     -- what a valuation that agrees gives the name of a node
     node_value : (x : ℕ) → x ≤ length names → optional_value v (name_at names x) ≡ whole (pos (label_at labels x))
-    node_value zero h = ap (λ m. whole (pos m)) (sym null)
-    node_value (suc k) h =
-        let inside : k < length named = omega (arith, same_length) in
-        ap (name_value v) (sym (name_of_item k d (omega arith))) ∙ all k d inside ∙ n.value k d (omega arith) ∙ ap (λ x. whole (pos (label_at labels x))) (add-one k)
+    node_value x h = value_of_node names (label_value labels) named n (ap (λ m. whole (pos m)) (sym null)) v all d x h
 
     side_value : (row : PtrLit) (Stand : ℕ → ℕ → Type 0) (p : AtNodes names row Stand)
         → (optional_value v row.left ≡ whole (pos (label_at labels p.left))) × (optional_value v row.right ≡ whole (pos (label_at labels p.right)))
@@ -100,15 +69,15 @@ module _ (names labels : List ℕ) (named : List NameValue) (n : AreNamedValues 
         let sides = side_value row _ p in
         (λ e. absurd (cc), λ e. absurd (p.stand (whole_same _ _ (sym sides.0 ∙ e ∙ sides.1))))
 
-pub are_pointers : (rows : List PtrLit) (names labels : List ℕ) (classes : Classes) (named : List NameValue) → AreNames rows names → AreClasses names rows (length rows) classes
-    → AreLabels (length names + 1) classes.parents labels → All (IsApart names labels) rows → AreNamedValues names labels named → ArePointers rows named
+pub are_pointers : (rows : List PtrLit) (names labels : List ℕ) (classes : Classes) (named : List NameValue) → AreNames (mentioned rows) names → AreClasses names rows (length rows) classes
+    → AreLabels (length names + 1) classes.parents labels → All (IsApart names labels) rows → AreNamedValues names (label_value labels) named → ArePointers rows named
 are_pointers rows names labels classes named ns c a apart n =
     let kept = subst (All (IsKept names classes.parents)) (take_all (length rows) rows (omega arith)) c.kept in
     record {
       named = subst (λ xs. All (Contains xs) (mentioned rows)) (sym n.same) ns.all;
       only = subst (λ xs. All (Contains (mentioned rows)) xs) (sym n.same) ns.only;
       rising = subst IsStrictlyIncreasing (sym n.same) ns.rising;
-      sort = λ k d h. subst (IsOfSort sort.Ptr) (sym (n.value k d (omega (arith, same_length names labels named n a.null)))) (natural _);
+      sort = λ k d h. subst (IsOfSort sort.Ptr) (sym (n.value k d (omega (arith, same_length names (label_value labels) named n)))) (natural _);
       keeps = λ v all k row h.
           (let one = get_or rows k row in
           row_true names labels named n a.null v all (record { name = record { 0 = 0 }; value = whole (pos 0) }) classes rows one c a (kept k row h) (apart k row h) one.same refl);

@@ -1,30 +1,21 @@
 -- Rows: equalities and inequalities of pointers, and values that make them true.
-use Rattle.std.specs.Prelude.{◌≡◌, ℕ, List, [], ◌∷◌, ◌++◌, Option, Some, None, map}
+use Rattle.std.specs.Prelude.{◌≡◌, ℕ, List, map}
 use Rattle.std.specs.List.{All, Contains}
 use Rattle.std.specs.List.Sorted.{IsStrictlyIncreasing}
 use Rattle.hp_tree.specs.declared.problem.Sort.TheVariants as sort
-use Rattle.hp_lit.specs.declared.literal.Name.{Name}
 use Rattle.hp_lit.specs.declared.literal.PtrLit.{PtrLit}
 use Rattle.hp_lit.specs.declared.literal.Lit.TheVariants.{Ptr}
 use Rattle.hp_lit.specs.declared.valuation.NameValue.{NameValue}
 use Rattle.hp_lit.specs.Sorts.{IsOfSort}
 use Rattle.hp_lit.specs.Truth.{Values, name_value, PtrIsTrue}
 use Rattle.hp_lit.specs.Pointers.{IsValidPtr}
+use Rattle.hp_nodes.specs.Nodes.{mentioned_by, names_of}
 use Rattle.hp_ptreq.specs.declared.answer.PtrAnswer.{PtrAnswer}
 use Rattle.hp_ptreq.specs.declared.answer.PtrAnswer.TheVariants.{Classes, Conflict}
 
-abbrev pub number_of : Option Name → List ℕ
-number_of None = []
-number_of (Some name) = name.0 ∷ []
-
 -- the names that the rows mention, each as often as it stands in them
 abbrev pub mentioned : List PtrLit → List ℕ
-mentioned [] = []
-mentioned (row ∷ rows) = number_of row.left ++ number_of row.right ++ mentioned rows
-
--- the names that are given a value, in order
-abbrev pub names_of : List NameValue → List ℕ
-names_of values = map (λ nv. nv.name.0) values
+mentioned rows = mentioned_by (λ row. row.left) (λ row. row.right) rows
 
 -- Each name of the rows has one value, no other name has one, the values are whole numbers from 0, and every row is true
 -- wherever the names have these values and null is 0.

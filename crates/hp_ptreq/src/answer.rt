@@ -4,15 +4,17 @@ ghost use Rattle.std.specs.List.{All};
 ghost use Rattle.std.specs.List.Sorted.{IsStrictlyIncreasing};
 ghost use Rattle.hp_math.specs.Rational.{whole};
 ghost use Rattle.hp_tree.specs.Limits.{most_rows};
-ghost use Rattle.hp_ptreq.specs.Rows.{IsPtrAnswer};
+ghost use Rattle.hp_nodes.specs.Nodes.{AreNamedValues, AreNames, IsNamed};
+ghost use Rattle.hp_ptreq.specs.Rows.{IsPtrAnswer, mentioned};
 ghost use Rattle.hp_ptreq.specs.inner.Built.{AreClasses, IsApart, IsClash};
 ghost use Rattle.hp_ptreq.specs.inner.Classes.{AreLabels};
-ghost use Rattle.hp_ptreq.specs.inner.Nodes.{AreNamedValues, AreNames, IsNamed};
+ghost use Rattle.hp_ptreq.specs.inner.Nodes.{label_value};
 
 use crate::classes::{Classes, classes_of, labels_of};
-use crate::names::{distinct_names, node_of};
+use crate::names::distinct_names;
 use crate::ways::way_between;
 use hp_lit::{Name, NameValue, PtrLit};
+use hp_nodes::node_of;
 use hp_num::{Frac, List};
 use std::alloc::{AllocError, Global};
 
@@ -72,7 +74,7 @@ fn named_values(
     labels: &[usize],
 ) -> Result<List<NameValue>, AllocError>
     requires { length labels.now ≡ length names.now + 1 }
-    ensures { IfOk result (λ named. AreNamedValues names.now labels.now named) }
+    ensures { IfOk result (λ named. AreNamedValues names.now (label_value labels.now) named) }
 {
     let mut named = List::new(alloc);
     for (at, name) in names.iter().enumerate() {
@@ -93,7 +95,7 @@ fn answer_of(
     labels: &[usize],
 ) -> Result<PtrAnswer, AllocError>
     requires few { length rows.now ≤ most_rows }
-    requires names { AreNames rows.now names.now }
+    requires names { AreNames (mentioned rows.now) names.now }
     requires classes { AreClasses names.now rows.now (length rows.now) classes.now }
     requires labels { AreLabels (length names.now + 1) classes.now.parents labels.now }
     ensures { IfOk result (λ answer. IsPtrAnswer rows.now answer) }

@@ -5,12 +5,13 @@ ghost use Rattle.std.specs.Prelude.{◌≡◌, ◌≤◌, ◌<◌, ◌+◌, IfOk
 ghost use Rattle.std.specs.List.{All};
 ghost use Rattle.std.specs.List.Sorted.{IsStrictlyIncreasing};
 ghost use Rattle.hp_tree.specs.Limits.{most_rows};
-ghost use Rattle.hp_ptreq.specs.inner.Nodes.{AreNodes, IsNamed};
+ghost use Rattle.hp_ptreq.specs.inner.Nodes.{AreNodes};
+ghost use Rattle.hp_nodes.specs.Nodes.{IsNamed};
 ghost use Rattle.hp_ptreq.specs.inner.Classes.{AreApart, AreLabels, AreTrees, IsJoined, IsRootOf, label_at, parent_at};
 ghost use Rattle.hp_ptreq.specs.inner.Built.{AreClasses};
 
-use crate::names::node_of;
 use hp_lit::PtrLit;
+use hp_nodes::node_of;
 use hp_num::List;
 use std::alloc::{AllocError, Global};
 

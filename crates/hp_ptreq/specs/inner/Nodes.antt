@@ -1,30 +1,10 @@
--- How names are numbered nodes: node 0 is null, and the names follow in order.
-use Rattle.std.specs.Prelude.{◌≡◌, ℕ, zero, suc, ◌+◌, ◌-◌, ◌<◌, ◌≤◌, List, length, Option, Some, None, pos, true, slice_get, slice_index, slice_index_or}
-use Rattle.std.specs.List.{All, Contains}
-use Rattle.std.specs.List.Sorted.{IsStrictlyIncreasing}
-use Rattle.hp_math.specs.Rational.{whole}
-use Rattle.hp_lit.specs.declared.literal.Name.{Name}
+-- How rows stand between numbered nodes, of which node 0 is null.
+use Rattle.std.specs.Prelude.{◌≡◌, ℕ, ◌-◌, ◌≤◌, List, length, Some, pos, true, slice_get}
+use Rattle.hp_math.specs.Rational.{ℚ, whole}
 use Rattle.hp_lit.specs.declared.literal.PtrLit.{PtrLit}
-use Rattle.hp_lit.specs.declared.valuation.NameValue.{NameValue}
-use Rattle.hp_ptreq.specs.Rows.{mentioned, names_of}
+use Rattle.hp_nodes.specs.Nodes.{name_at}
 use Rattle.hp_ptreq.specs.declared.classes.Join.{Join}
 use Rattle.hp_ptreq.specs.inner.Classes.{label_at}
-
--- the names of the rows, each once, in order
-pub record AreNames (rows : List PtrLit) (names : List ℕ) : Type 0 where
-  pub rising : IsStrictlyIncreasing names
-  pub all : All (Contains names) (mentioned rows)
-  pub only : All (Contains (mentioned rows)) names
-
--- no name, or one of the list
-abbrev pub IsNamed : List ℕ → Option Name → Type 0
-IsNamed names None = Unit {0}
-IsNamed names (Some name) = Contains names name.0
-
--- the name of a node
-abbrev pub name_at : List ℕ → ℕ → Option Name
-name_at names zero = None
-name_at names (suc k) = Some (record { 0 = slice_index names k })
 
 -- these are the nodes of the row's names
 pub record AreNodes (names : List ℕ) (row : PtrLit) (left right : ℕ) : Type 0 where
@@ -48,7 +28,6 @@ pub record IsJoin (names : List ℕ) (rows : List PtrLit) (j : Join) : Type 0 wh
   pub same : row.same ≡ true
   pub nodes : AreNodes names row j.left j.right
 
--- each name with the label of its node as its value
-pub record AreNamedValues (names labels : List ℕ) (named : List NameValue) : Type 0 where
-  pub same : names_of named ≡ names
-  pub value : (k : ℕ) (d : NameValue) → k < length names → (slice_index_or named k d).value ≡ whole (pos (label_at labels (k + 1)))
+-- the label of a node as its value
+abbrev pub label_value : List ℕ → ℕ → ℚ
+label_value labels x = whole (pos (label_at labels x))

@@ -1,7 +1,21 @@
+use Rattle.std.proofs.Common.{◌≤◌, ℕ, List, length, arith}
+use Rattle.hp_lit.specs.declared.literal.IdxLit.{IdxLit}
+use Rattle.hp_nodes.specs.Nodes.{AreNames}
+use Rattle.hp_nodes.proofs.Mentions.{names_few}
+use Rattle.hp_diff.specs.Rows.{mentioned}
 use Rattle.hp_diff.proofs.Building.{edges_fit}
 use Rattle.hp_diff.proofs.Points.{is_point}
 use Rattle.hp_diff.proofs.Steps.{valid_steps, walk_within}
 use Rattle.hp_diff.proofs.answer.answer_of.Goals as goal
+
+at_most : (rows : List IdxLit) (names : List ℕ) → length rows ≤ 100000 → AreNames (mentioned rows) names → length names ≤ 200000
+at_most rows names few ns = (let two = names_few IdxLit (λ row. row.left) (λ row. row.right) rows names ns in omega arith)
+
+pub settle-requires-clause-nodes : goal.settle-requires-clause-nodes
+settle-requires-clause-nodes c = (let most = at_most _ _ c.requires.few c.requires.names in omega arith)
+
+pub named_values-requires-clause-few : goal.named_values-requires-clause-few
+named_values-requires-clause-few c = at_most _ _ c.requires.few c.requires.names
 
 pub settle-requires-clause-edges : goal.settle-requires-clause-edges
 settle-requires-clause-edges c = edges_fit _ _ _ c.requires.bounds c.requires.edges

@@ -2,7 +2,7 @@ use Rattle.std.proofs.Common.{refl, ap, ◌∙◌, rules, FitsSigned}
 use Rattle.std.specs.Int.{w128}
 use Rattle.std.proofs.lemmas.Int.{to_z-of_z}
 use Rattle.hp_math.specs.Rational.{whole}
-use Rattle.hp_diff.proofs.Points.{next_named}
+use Rattle.hp_nodes.proofs.Values.{next_named}
 use Rattle.hp_diff.proofs.answer.named_values.Goals as goal
 
 pub loop-at-preserved : goal.loop-at-preserved

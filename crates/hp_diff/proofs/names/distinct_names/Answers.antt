@@ -1,11 +1,7 @@
-use Rattle.std.proofs.Common.{◌≤◌, subst, length, rules}
-use Rattle.std.specs.Prelude.{nat_eq}
-use Rattle.std.proofs.lemmas.List.Filters.{dedup_is}
-use Rattle.hp_diff.proofs.Finding.{names_are}
+use Rattle.std.proofs.Common.{subst}
+use Rattle.std.specs.Prelude.{IfOk}
+use Rattle.hp_nodes.specs.Nodes.{AreNames}
 use Rattle.hp_diff.proofs.names.distinct_names.Goals as goal
 
 pub returns : goal.returns
-returns c =
-    let is = dedup_is nat_eq _ _ c.dedup.ensures.filtered in
-    let few : length c.dedup.new.self.items ≤ length c.sort.new.self.items = search (rules, c.dedup.ensures.bound) in
-    rw is (names_are c.args.rows.now c.in_ok-names.names.items c.sort.new.self.items c.in_ok-names.ensures c.in_ok-sort.ensures.permutation c.in_ok-sort.ensures.sorted (subst (λ xs. length xs ≤ length c.sort.new.self.items) is few))
+returns c = subst (λ mentions. IfOk c.distinct.result (λ names. AreNames mentions names.items)) c.in_ok-mentions.ensures c.distinct.ensures

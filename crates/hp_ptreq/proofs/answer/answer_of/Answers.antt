@@ -1,15 +1,16 @@
 use Rattle.std.proofs.Common.{arith, refl}
 use Rattle.hp_ptreq.proofs.Labels.{joined_by_label}
-use Rattle.hp_ptreq.proofs.Mentions.{named_left, named_right}
+use Rattle.hp_lit.specs.declared.literal.PtrLit.{PtrLit}
+use Rattle.hp_nodes.proofs.Mentions.{named_left, named_right}
 use Rattle.hp_ptreq.proofs.Paths.{are_within, valid_path}
 use Rattle.hp_ptreq.proofs.Points.{are_pointers}
 use Rattle.hp_ptreq.proofs.answer.answer_of.Goals as goal
 
 pub first_clash-requires-clause-left : goal.first_clash-requires-clause-left
-first_clash-requires-clause-left c = named_left _ _ c.requires.names.all
+first_clash-requires-clause-left c = named_left PtrLit (λ row. row.left) (λ row. row.right) _ _ c.requires.names.all
 
 pub first_clash-requires-clause-right : goal.first_clash-requires-clause-right
-first_clash-requires-clause-right c = named_right _ _ c.requires.names.all
+first_clash-requires-clause-right c = named_right PtrLit (λ row. row.left) (λ row. row.right) _ _ c.requires.names.all
 
 pub way_between-requires-clause-within : goal.way_between-requires-clause-within
 way_between-requires-clause-within c = rw c.as_slice-joins.ensures (are_within _ _ _ c.requires.classes.each)

@@ -1,4 +1,4 @@
-use Rattle.hp_ptreq.proofs.Points.{next_named}
+use Rattle.hp_nodes.proofs.Values.{next_named}
 use Rattle.std.proofs.Common.{refl}
 use Rattle.hp_ptreq.proofs.answer.named_values.Goals as goal
 

@@ -1,7 +1,7 @@
 -- Names in rising order: what a sort leaves without repeats, and that a search finds each.
-use Rattle.std.proofs.Common.{◌≡◌, ℕ, zero, suc, ◌+◌, ◌-◌, ◌<◌, ◌≤◌, List, length, get_or, sym, ap, subst, ◌∙◌, arith, Err}
+use Rattle.std.proofs.Common.{◌≡◌, ℕ, zero, suc, ◌+◌, ◌-◌, ◌<◌, ◌≤◌, List, length, get_or, sym, subst, ◌∙◌, arith, Err}
 use Rattle.std.specs.Prelude.{nat_eq}
-use Rattle.std.specs.List.{All, Contains, dedup}
+use Rattle.std.specs.List.{Contains, dedup}
 use Rattle.std.specs.List.Sorted.{IsBinarySearchResult, IsStrictlyIncreasing, IsPermutation, IsSorted}
 use Rattle.std.specs.Ordering.{nat_cmp}
 use Rattle.std.proofs.lemmas.Bool.{cases_lt}
@@ -11,10 +11,7 @@ use Rattle.std.proofs.lemmas.List.Sorted.{searched, Contains-permutation, IsPerm
 use Rattle.std.proofs.lemmas.List.Kept.{Contains-dedup_nat, Contains-from_dedup}
 use Rattle.std.proofs.lemmas.List.Elements.{All-contains_itself, All-weaker}
 use Rattle.std.proofs.lemmas.Map.Keys.{IsStrictlyIncreasing-dedup}
-use Rattle.hp_lit.specs.declared.literal.IdxLit.{IdxLit}
-use Rattle.hp_diff.specs.Rows.{mentioned}
-use Rattle.hp_diff.specs.inner.Edges.{AreNames}
-use Rattle.hp_diff.proofs.Mentions.{mentions_few}
+use Rattle.hp_nodes.specs.Nodes.{AreNames}
 
 rises_by : (xs : List ℕ) → IsStrictlyIncreasing xs → (i gap : ℕ) → i + gap < length xs → get_or xs i 0 ≤ get_or xs (i + gap) 0
 rises_by xs up i zero h =
@@ -43,13 +40,11 @@ found xs x i up c r =
       | inr l ↦ (let b = s.2 k l k_in in omega arith)
     ]
 
-pub names_are : (rows : List IdxLit) (all sorted : List ℕ) → all ≡ mentioned rows → IsPermutation all sorted → IsSorted nat_cmp sorted → length (dedup nat_eq sorted) ≤ length sorted
-    → AreNames rows (dedup nat_eq sorted)
-names_are rows all sorted e p s few = record {
+pub names_are : (all sorted : List ℕ) → IsPermutation all sorted → IsSorted nat_cmp sorted → length (dedup nat_eq sorted) ≤ length sorted → AreNames all (dedup nat_eq sorted)
+names_are all sorted p s few = record {
   rising = IsStrictlyIncreasing-dedup sorted s;
-  all = subst (λ xs. All (Contains (dedup nat_eq sorted)) xs) e
-      (All-weaker _ _ (λ x c. Contains-dedup_nat sorted x (Contains-permutation all sorted x p c)) all (All-contains_itself all));
-  only = subst (λ xs. All (Contains xs) (dedup nat_eq sorted)) e
-      (All-weaker _ _ (λ x c. Contains-permutation sorted all x (IsPermutation-sym all sorted p) (Contains-from_dedup nat_eq sorted x c)) (dedup nat_eq sorted) (All-contains_itself (dedup nat_eq sorted)));
-  few = (let same = length_permutation all sorted p in let is = ap length e in let most = mentions_few rows in omega arith);
+  all = All-weaker _ _ (λ x c. Contains-dedup_nat sorted x (Contains-permutation all sorted x p c)) all (All-contains_itself all);
+  only = All-weaker _ _ (λ x c. Contains-permutation sorted all x (IsPermutation-sym all sorted p) (Contains-from_dedup nat_eq sorted x c)) (dedup nat_eq sorted)
+      (All-contains_itself (dedup nat_eq sorted));
+  few = (let same = length_permutation all sorted p in omega arith);
 }
