@@ -6,3 +6,4 @@ pub mod Bounds
 pub mod Counted
 pub mod Nesting
 pub mod Shallow
+pub mod Plain

@@ -1,5 +1,5 @@
 -- The numerals of some tokens, added together, and the terms that weigh at most as much.
-use Rattle.std.proofs.Common.{◌≡◌, ℕ, ◌+◌, ◌≤◌, List, [], ◌∷◌, ◌++◌, unsigned_abs, arith}
+use Rattle.std.proofs.Common.{◌≡◌, ℕ, ◌+◌, ◌≤◌, List, [], ◌∷◌, ◌++◌, map, unsigned_abs, arith}
 use Rattle.hp_math.specs.Rational.{ℚ}
 use Rattle.hp_tree.specs.declared.term.Term.{Term, fold-roll-Term}
 use Rattle.hp_tree.specs.declared.term.Term.TheOpen.{Term-F}
@@ -8,8 +8,8 @@ use Rattle.hp_text.specs.declared.token.Kind.TheVariants as kinds
 use Rattle.hp_grammar.specs.declared.symbol.Symbol.{Symbol as Token}
 use Rattle.hp_grammar.specs.declared.symbol.Symbol.TheVariants.{Word as word, Name as name, Numeral as numeral}
 use Rattle.hp_grammar.specs.Tree.{number_of, null, named, apply, add, sub, neg, scale}
-use Rattle.hp_grammar.specs.Grammar.{SpellsNumber, SpellsTerm, SpellsPart, SpellsFactor, whole, fraction, part, minus, sum, difference, number, product, factor, single, call, nothing, group}
-use Rattle.hp_index.specs.Forms.{weight, weight_step}
+use Rattle.hp_grammar.specs.Grammar.{SpellsNumber, SpellsTerm, SpellsPart, SpellsFactor, SpellsTerms, whole, fraction, part, minus, sum, difference, number, product, factor, single, call, nothing, group, first, more}
+use Rattle.hp_terms.specs.Weight.{weight, weight_step, weights}
 use Rattle.hp_math.proofs.Lowest.{numerator_most}
 
 -- ---- what tokens carry
@@ -43,7 +43,7 @@ weight-named : (n : List ℕ) → weight (named n) ≡ 0
 unfolding named
 weight-named n = fold-roll-Term ℕ weight_step (Term-F.Name n)
 
-weight-apply : (f : List ℕ) (ts : List Term) → weight (apply f ts) ≡ 0
+weight-apply : (f : List ℕ) (ts : List Term) → weight (apply f ts) ≡ weights (map weight ts)
 unfolding apply
 weight-apply f ts = fold-roll-Term ℕ weight_step (Term-F.Apply f ts)
 
@@ -59,9 +59,13 @@ weight-neg : (a : Term) → weight (neg a) ≡ weight a
 unfolding neg
 weight-neg a = fold-roll-Term ℕ weight_step (Term-F.Neg a)
 
-weight-scale : (q : ℚ) (a : Term) → weight (scale q a) ≡ weight a
+weight-scale : (q : ℚ) (a : Term) → weight (scale q a) ≡ unsigned_abs q.num + weight a
 unfolding scale
 weight-scale q a = fold-roll-Term ℕ weight_step (Term-F.Scale q a)
+
+weights_more : (ts : List Term) (t : Term) → weights (map weight (ts ++ t ∷ [])) ≡ weights (map weight ts) + weight t
+weights_more [] t = omega arith
+weights_more (s ∷ ts) t = omega (arith, weights_more ts t)
 
 -- ---- a term weighs no more than its tokens carry
 number_carried : (u : List Token) (q : ℚ) → SpellsNumber u q → unsigned_abs q.num ≤ load u
@@ -77,11 +81,15 @@ mutual
 
   part_carried : (u : List Token) (t : Term) → SpellsPart u t → weight t ≤ load u
   part_carried u t (number v q h) = omega (arith, weight-number_of q, number_carried v q h)
-  part_carried u t (product v w q s g h) = omega (arith, weight-scale q s, load-between kinds.Star v w, factor_carried w s h)
+  part_carried u t (product v w q s g h) = omega (arith, weight-scale q s, load-between kinds.Star v w, number_carried v q g, factor_carried w s h)
   part_carried u t (factor v s h) = factor_carried v s h
 
   factor_carried : (u : List Token) (t : Term) → SpellsFactor u t → weight t ≤ load u
   factor_carried u t (single n) = omega (arith, weight-named n)
-  factor_carried u t (call n v ts h) = omega (arith, weight-apply n ts)
+  factor_carried u t (call n v ts h) = omega (arith, weight-apply n ts, load-between kinds.CloseRound v [], terms_carried v ts h)
   factor_carried u t nothing = omega (arith, weight-null)
   factor_carried u t (group v s h) = omega (arith, load-between kinds.CloseRound v [], term_carried v s h)
+
+  terms_carried : (u : List Token) (ts : List Term) → SpellsTerms u ts → weights (map weight ts) ≤ load u
+  terms_carried u ts (first v t h) = omega (arith, term_carried v t h)
+  terms_carried u ts (more v w ss t g h) = omega (arith, weights_more ss t, load-between kinds.Comma v w, terms_carried v ss g, term_carried w t h)

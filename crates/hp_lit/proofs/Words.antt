@@ -1,5 +1,5 @@
 -- Words by the names that they stand for.
-use Rattle.std.proofs.Common.{◌≡◌, ◌<◌, ℕ, List, [], Option, Some, None, length, get_or, refl, sym, ap, ◌∙◌}
+use Rattle.std.proofs.Common.{◌≡◌, ◌<◌, ℕ, zero, suc, List, [], ◌∷◌, ◌++◌, Option, Some, None, length, get_or, refl, sym, ap, ◌∙◌}
 use Rattle.std.specs.Prelude.{option_map, position, slice_get}
 use Rattle.std.specs.Str.{bytes_eq}
 use Rattle.std.proofs.lemmas.List.Quantifiers.{position-Some}
@@ -35,3 +35,12 @@ numbered words word name = by (position (bytes_eq word) words) refl
 -- where an environment agrees with the values, a word has the value of its name
 pub word_value : (words : List Word) (v : Values) (env : Word → ℚ) (word : Word) (name : Name) → Agrees words v env → number words word ≡ Some name → env word ≡ name_value v name.0
 word_value words v env word name agrees e = agrees name.0 word (numbered words word name e).there
+
+-- what agrees with more words agrees with those in front
+get_front : {A : Type 0} (xs ys : List A) (k : ℕ) (x : A) → slice_get xs k ≡ Some x → slice_get (xs ++ ys) k ≡ Some x
+get_front [] ys k x e = absurd (cc)
+get_front (z ∷ zs) ys zero x e = e
+get_front (z ∷ zs) ys (suc k) x e = get_front zs ys k x e
+
+pub agrees_front : (words more : List Word) (v : Values) (env : Word → ℚ) → Agrees (words ++ more) v env → Agrees words v env
+agrees_front words more v env agrees k word e = agrees k word (get_front words more k word e)

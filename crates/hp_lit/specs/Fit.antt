@@ -59,9 +59,3 @@ abbrev pub IsFit : List Sort → Lit → Type 0
 IsFit sorts (Num l) = IsNumOver sorts l
 IsFit sorts (Idx row) = IsRowOver sorts row
 IsFit sorts (Ptr l) = IsPairOver sorts l
-
--- such a literal of a sort that has an engine so far: pointers have none
-abbrev pub IsBuilt : List Sort → Lit → Type 0
-IsBuilt sorts (Num l) = IsNumOver sorts l
-IsBuilt sorts (Idx row) = IsRowOver sorts row
-IsBuilt sorts (Ptr l) = ⊥

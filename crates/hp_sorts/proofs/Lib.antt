@@ -1,1 +1,4 @@
 pub mod Walking
+pub mod Faultless
+pub mod Places
+pub mod Found

@@ -7,15 +7,15 @@ use Rattle.hp_tree.specs.declared.problem.Var.{Var}
 use Rattle.hp_tree.specs.declared.problem.Clause.{Clause}
 use Rattle.hp_tree.specs.declared.problem.Decl.{Decl}
 use Rattle.hp_tree.specs.declared.problem.Decl.TheVariants.{Const, Fun}
+use Rattle.hp_terms.specs.declared.forms.Forms.{Forms}
+use Rattle.hp_terms.specs.Sorting.{fit, has_form}
 use Rattle.hp_sorts.specs.declared.fault.SortErr.{SortErr}
 use Rattle.hp_sorts.specs.declared.fault.SortErr.TheVariants.{Twice, Level, Unknown, Arity, Mismatch, Memory}
 use Rattle.hp_sorts.specs.declared.tables.SortTable.{SortTable}
 use Rattle.hp_sorts.specs.declared.tables.Tables.{Tables}
 use Rattle.hp_sorts.specs.declared.tables.Signature.{Signature}
-use Rattle.hp_sorts.specs.declared.forms.Forms.{Forms}
 use Rattle.hp_sorts.specs.Numbered.{Name, is_among}
 use Rattle.hp_sorts.specs.Symbols.{declare, variables, joined, is_declared, constant_names, constant_sorts, function_names, signatures}
-use Rattle.hp_sorts.specs.Terms.{fit, has_form}
 use Rattle.hp_sorts.specs.Faults.{decl_fault, decls_fault, clause_fault, clauses_fault, vars_fault, atoms_fault, IsCause, Answers}
 
 -- the rest from a place on begins with what stands there

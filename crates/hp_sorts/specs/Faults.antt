@@ -8,6 +8,7 @@ use Rattle.hp_tree.specs.declared.problem.Clause.{Clause}
 use Rattle.hp_tree.specs.declared.problem.Decl.{Decl}
 use Rattle.hp_tree.specs.declared.problem.Decl.TheVariants.{Const, Fun}
 use Rattle.hp_tree.specs.declared.problem.Problem.{Problem}
+use Rattle.hp_terms.specs.Sorting.{atom_is_sorted}
 use Rattle.hp_sorts.specs.declared.fault.SortErr.{SortErr}
 use Rattle.hp_sorts.specs.declared.fault.SortErr.TheVariants.{Twice, Level, Unknown, Arity, Mismatch, Memory}
 use Rattle.hp_sorts.specs.declared.tables.SortTable.{SortTable}
@@ -16,7 +17,8 @@ use Rattle.hp_sorts.specs.declared.naming.NameRule.{NameRule}
 use Rattle.hp_sorts.specs.declared.naming.NameRule.TheVariants.{Known, Counted}
 use Rattle.hp_sorts.specs.Numbered.{Name, is_among}
 use Rattle.hp_sorts.specs.Symbols.{no_symbols, symbols, declare, is_declared, variables}
-use Rattle.hp_sorts.specs.Terms.{atom_passes, atom_is_sorted}
+use Rattle.hp_sorts.specs.Naming.{atom_passes}
+use Rattle.hp_sorts.specs.Scopes.{scope_of}
 
 -- ---- declarations
 
@@ -47,7 +49,7 @@ abbrev pub clause_passes : Tables → SortTable → NameRule → Clause → Bool
 clause_passes s vars rule clause = list_all (atom_passes s vars rule) clause.guard && list_all (atom_passes s vars rule) clause.head
 
 abbrev pub clause_is_sorted : Tables → SortTable → Clause → Bool
-clause_is_sorted s vars clause = list_all (atom_is_sorted s vars) clause.guard && list_all (atom_is_sorted s vars) clause.head
+clause_is_sorted s vars clause = list_all (atom_is_sorted (scope_of s vars)) clause.guard && list_all (atom_is_sorted (scope_of s vars)) clause.head
 
 -- the names of a clause are known, then its functions have as many arguments as declared, then its terms have their sorts
 abbrev pub atoms_fault : Tables → SortTable → ℕ → Clause → Option SortErr

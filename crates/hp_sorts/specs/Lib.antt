@@ -1,5 +1,7 @@
 pub mod Numbered
 pub mod Symbols
-pub mod Terms
+pub mod Naming
+pub mod Scopes
 pub mod Faults
 pub mod Limits
+pub mod Laws

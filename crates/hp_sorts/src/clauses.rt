@@ -5,8 +5,8 @@ ghost use Rattle.hp_sorts.specs.Symbols.{variables};
 ghost use Rattle.hp_sorts.specs.Faults.{Answers, vars_fault, clause_passes, clause_is_sorted, atoms_fault, clause_fault, clauses_fault};
 
 use crate::fault::SortErr;
-use crate::forms::atoms_are_sorted;
 use crate::naming::{NameRule, atoms_pass};
+use crate::sorting::atoms_are_sorted;
 use crate::tables::{SortTable, Tables};
 use hp_tree::{Clause, Var};
 use std::alloc::Global;

@@ -2,7 +2,7 @@
 
 ghost use Rattle.std.specs.Prelude.{◌≡◌, ℕ, map};
 ghost use Rattle.std.specs.List.{list_all};
-ghost use Rattle.hp_sorts.specs.Terms.{name_passes, application_passes, term_passes, atom_passes};
+ghost use Rattle.hp_sorts.specs.Naming.{name_passes, application_passes, term_passes, atom_passes};
 
 use crate::tables::{SortTable, Tables};
 use hp_num::Text;

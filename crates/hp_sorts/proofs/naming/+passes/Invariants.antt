@@ -1,6 +1,6 @@
 use Rattle.std.proofs.Common.{◌≡◌, map, drop}
 use Rattle.std.specs.List.{list_all}
-use Rattle.hp_sorts.specs.Terms.{term_passes}
+use Rattle.hp_sorts.specs.Naming.{term_passes}
 use Rattle.hp_sorts.proofs.naming.+passes.Given as goal
 
 abbrev pub invariant-all_pass-loop-term : goal.invariant-all_pass-loop-term

@@ -1,0 +1,5 @@
+use Rattle.hp_terms.proofs.Words as words
+use Rattle.hp_terms.proofs.laws.made_words_differ.Goals as goal
+
+pub returns : goal.returns
+returns c = words.made_words_differ
