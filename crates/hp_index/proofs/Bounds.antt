@@ -1,51 +1,95 @@
--- Bounds are small where the numbers of an atom are.
-use Rattle.std.proofs.Common.{◌<◌, ℕ, ◌+◌, ◌-ℤ◌, List, [], ◌∷◌, arith}
+-- How large the numbers of forms and the bounds of literals can become.
+use Rattle.std.proofs.Common.{◌≤◌, ℕ, ◌+◌, ℤ, pos, negsuc, neg_ℤ, ◌+ℤ◌, ◌-ℤ◌, unsigned_abs, List, [], ◌∷◌, sym, subst, arith}
 use Rattle.std.specs.List.{All}
+use Rattle.std.proofs.lemmas.Int.{ints}
 use Rattle.std.proofs.lemmas.List.Elements.{All-nil, All-cons}
+use Rattle.hp_tree.specs.declared.term.Term.{Term, fold-roll-Term, roll-Term, map-Term}
+use Rattle.hp_tree.specs.declared.term.Term.TheOpen.{Term-F}
+use Rattle.hp_tree.specs.declared.problem.Cmp.{Cmp}
+use Rattle.hp_tree.specs.declared.problem.Cmp.TheVariants.{Le, Lt, Eq, Ne, Ge, Gt}
+use Rattle.hp_tree.specs.Value.{Word}
+use Rattle.hp_terms.specs.Weight.{IsSmallOffset, IsWithin, largest_offset, weight, weight_step}
 use Rattle.hp_lit.specs.declared.literal.Rel.{Rel}
 use Rattle.hp_lit.specs.declared.literal.Rel.TheVariants as rel
 use Rattle.hp_lit.specs.declared.literal.Lit.TheVariants.{Idx}
-use Rattle.hp_tree.specs.declared.term.Term.{Term}
-use Rattle.hp_tree.specs.declared.problem.Atom.{Atom}
-use Rattle.hp_tree.specs.declared.problem.Cmp.{Cmp}
-use Rattle.hp_tree.specs.declared.problem.Cmp.TheVariants.{Le, Lt, Eq, Ne, Ge, Gt}
-use Rattle.hp_index.specs.declared.collect.Form.{Form}
-use Rattle.hp_index.specs.declared.collect.Shape.{Shape}
-use Rattle.hp_index.specs.declared.collect.Shape.TheVariants.{Number, Sum, Other}
-use Rattle.hp_tree.specs.Value.{Word}
-use Rattle.hp_tree.specs.declared.sides.Side.{Side}
-use Rattle.hp_tree.specs.Sides.{taken}
-use Rattle.hp_index.specs.Forms.{IsSmall, IsWithin, form_of, largest, shape_form, shape_of, weight}
-use Rattle.hp_index.specs.Literals.{HasSmallBound, IsLightAtom, atom_literals, compared, literals}
-use Rattle.hp_index.proofs.Shapes.{ShapeWithin, term-within, within-less, within-more, within-strict, within-zero}
+use Rattle.hp_lit.specs.Fit.{IsSmallBound}
+use Rattle.hp_index.specs.declared.form.IndexForm.{IndexForm}
+use Rattle.hp_index.specs.Forms.{index_of, index_step}
+use Rattle.hp_index.specs.Fit.{HasSmallBound}
+use Rattle.hp_index.specs.Laws.{OffsetsAreWithinWeights}
+use Rattle.hp_index.specs.Literals.{compared, form_literals}
+use Rattle.hp_index.proofs.Layers.{Parts, bare, by_layers}
 
-shape_form-within : (w : ℕ) (s : Shape) → ShapeWithin w s → IsWithin w (shape_form s).offset
-shape_form-within w (Number k) h = h
-shape_form-within w (Sum f) h = h
-shape_form-within w Other h = within-zero w
+-- ---- magnitudes
+within-+ : (a b : ℕ) (x y : ℤ) → IsWithin a x → IsWithin b y → IsWithin (a + b) (x +ℤ y)
+within-+ a b x y p q = let g = p.low in let h = p.high in let i = q.low in let j = q.high in record { low = omega (arith, ints); high = omega (arith, ints) }
 
-form-within : (words : List Word) (t : Term) → IsWithin (weight t) (form_of words t).offset
-form-within words t = shape_form-within (weight t) (shape_of words t) (term-within words t)
+within-less : (a b : ℕ) (x y : ℤ) → IsWithin a x → IsWithin b y → IsWithin (a + b) (x -ℤ y)
+within-less a b x y p q = let g = p.low in let h = p.high in let i = q.low in let j = q.high in record { low = omega (arith, ints); high = omega (arith, ints) }
 
-compared-small : (a b : ℕ) (r : Rel) (l m : Form) → IsWithin a l.offset → IsWithin b m.offset → (a + b) < largest → IsSmall (compared r l m).bound
-compared-small a b rel.Le l m p q h = within-more (a + b) largest (m.offset -ℤ l.offset) (omega arith) (within-less a b l.offset m.offset p q)
-compared-small a b rel.Lt l m p q h =
-    within-more (a + b + 1) largest (compared rel.Lt l m).bound (omega arith) (within-strict (a + b) (m.offset -ℤ l.offset) (within-less a b l.offset m.offset p q))
-compared-small a b rel.Eq l m p q h = within-more (a + b) largest (m.offset -ℤ l.offset) (omega arith) (within-less a b l.offset m.offset p q)
+within-neg : (a : ℕ) (x : ℤ) → IsWithin a x → IsWithin a (neg_ℤ x)
+within-neg a x p = let g = p.low in let h = p.high in record { low = omega (arith, ints); high = omega (arith, ints) }
 
-one-small : (a b : ℕ) (r : Rel) (l m : Form) → IsWithin a l.offset → IsWithin b m.offset → (a + b) < largest → All HasSmallBound (Idx (compared r l m) ∷ [])
-one-small a b r l m p q h = All-cons HasSmallBound (Idx (compared r l m)) [] (compared-small a b r l m p q h) (All-nil HasSmallBound)
+pub within-more : (a b : ℕ) (x : ℤ) → a ≤ b → IsWithin a x → IsWithin b x
+within-more a b x m p = let g = p.low in let h = p.high in record { low = omega (arith, ints); high = omega (arith, ints) }
 
-literals-small : (a b : ℕ) (cmp : Cmp) (l m : Form) → IsWithin a l.offset → IsWithin b m.offset → (a + b) < largest → All HasSmallBound (literals cmp l m)
-literals-small a b Le l m p q h = one-small a b rel.Le l m p q h
-literals-small a b Lt l m p q h = one-small a b rel.Lt l m p q h
-literals-small a b Eq l m p q h = one-small a b rel.Eq l m p q h
-literals-small a b Ne l m p q h =
-    All-cons HasSmallBound (Idx (compared rel.Lt l m)) (Idx (compared rel.Lt m l) ∷ []) (compared-small a b rel.Lt l m p q h) (one-small b a rel.Lt m l q p (omega arith))
-literals-small a b Ge l m p q h = one-small b a rel.Le m l q p (omega arith)
-literals-small a b Gt l m p q h = one-small b a rel.Lt m l q p (omega arith)
+within-own : (n : ℤ) → IsWithin (unsigned_abs n) n
+within-own (pos n) = record { low = omega (arith, ints); high = omega (arith, ints) }
+within-own (negsuc n) = record { low = omega (arith, ints); high = omega (arith, ints) }
 
-pub light_atom : (words : List Word) (side : Side) (atom : Atom) → IsLightAtom atom → All HasSmallBound (atom_literals words side atom)
-light_atom words side atom light =
-    literals-small (weight atom.left) (weight atom.right) (taken side atom.cmp) (form_of words atom.left) (form_of words atom.right)
-    (form-within words atom.left) (form-within words atom.right) light
+within-zero : (a : ℕ) → IsWithin a (pos 0)
+within-zero a = record { low = omega (arith, ints); high = omega (arith, ints) }
+
+-- ---- the number of a form
+module _ (words : List Word) where
+  abbrev OffsetIsWithin : Term → Type 0
+  OffsetIsWithin t = IsWithin (weight t) (index_of words t).offset
+
+  step-within : (y : Term-F (Parts OffsetIsWithin))
+      → IsWithin (weight_step (map-Term Term ℕ weight (bare OffsetIsWithin y))) (index_step words (map-Term Term IndexForm (index_of words) (bare OffsetIsWithin y))).offset
+  step-within (Term-F.Number q) = within-own q.num
+  step-within Term-F.Null = within-zero 0
+  step-within (Term-F.Name n) = within-zero 0
+  step-within (Term-F.Apply func args) = within-zero _
+  step-within (Term-F.Add a b) = within-+ (weight a.0) (weight b.0) (index_of words a.0).offset (index_of words b.0).offset a.1 b.1
+  step-within (Term-F.Sub a b) = within-less (weight a.0) (weight b.0) (index_of words a.0).offset (index_of words b.0).offset a.1 b.1
+  step-within (Term-F.Neg a) = within-neg (weight a.0) (index_of words a.0).offset a.1
+  step-within (Term-F.Scale q a) = within-zero _
+
+  layer-within : (y : Term-F (Parts OffsetIsWithin)) → OffsetIsWithin (roll-Term (bare OffsetIsWithin y))
+  layer-within y =
+      let z = bare OffsetIsWithin y in
+      subst (λ w. IsWithin w (index_of words (roll-Term z)).offset) (sym (fold-roll-Term ℕ weight_step z))
+      (subst (λ (g : IndexForm). IsWithin (weight_step (map-Term Term ℕ weight z)) g.offset) (sym (fold-roll-Term IndexForm (index_step words) z)) (step-within y))
+
+  pub offset_within : (t : Term) → OffsetIsWithin t
+  offset_within = by_layers OffsetIsWithin layer-within
+
+pub offsets_are_within_weights : OffsetsAreWithinWeights
+offsets_are_within_weights words t = offset_within words t
+
+pub small_offset : (words : List Word) (t : Term) → weight t ≤ largest_offset → IsSmallOffset (index_of words t).offset
+small_offset words t m = within-more (weight t) largest_offset (index_of words t).offset m (offset_within words t)
+
+-- ---- the bounds of literals
+difference_small : (x y : ℤ) → IsSmallOffset x → IsSmallOffset y → IsSmallBound (y -ℤ x)
+difference_small x y p q = let g = p.low in let h = p.high in let i = q.low in let j = q.high in record { low = omega (arith, ints); high = omega (arith, ints) }
+
+strict_small : (x y : ℤ) → IsSmallOffset x → IsSmallOffset y → IsSmallBound ((y -ℤ x) -ℤ pos 1)
+strict_small x y p q = let g = p.low in let h = p.high in let i = q.low in let j = q.high in record { low = omega (arith, ints); high = omega (arith, ints) }
+
+pub compared_small : (r : Rel) (l m : IndexForm) → IsSmallOffset l.offset → IsSmallOffset m.offset → IsSmallBound (compared r l m).bound
+compared_small rel.Le l m p q = difference_small l.offset m.offset p q
+compared_small rel.Lt l m p q = strict_small l.offset m.offset p q
+compared_small rel.Eq l m p q = difference_small l.offset m.offset p q
+
+one_small : (r : Rel) (l m : IndexForm) → IsSmallOffset l.offset → IsSmallOffset m.offset → All HasSmallBound (Idx (compared r l m) ∷ [])
+one_small r l m p q = All-cons HasSmallBound (Idx (compared r l m)) [] (compared_small r l m p q) (All-nil HasSmallBound)
+
+pub literals_small : (cmp : Cmp) (l m : IndexForm) → IsSmallOffset l.offset → IsSmallOffset m.offset → All HasSmallBound (form_literals cmp l m)
+literals_small Le l m p q = one_small rel.Le l m p q
+literals_small Lt l m p q = one_small rel.Lt l m p q
+literals_small Eq l m p q = one_small rel.Eq l m p q
+literals_small Ne l m p q = All-cons HasSmallBound (Idx (compared rel.Lt l m)) (Idx (compared rel.Lt m l) ∷ []) (compared_small rel.Lt l m p q) (one_small rel.Lt m l q p)
+literals_small Ge l m p q = one_small rel.Le m l q p
+literals_small Gt l m p q = one_small rel.Lt m l q p

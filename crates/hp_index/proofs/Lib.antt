@@ -1,7 +1,9 @@
 pub mod Numbers
-pub mod Shapes
-pub mod Bounds
 pub mod Sides
+pub mod Layers
+pub mod Bounds
+pub mod Steps
+pub mod Named
 pub mod Semantics
 pub mod Truth
-pub mod Steps
+pub mod Fits

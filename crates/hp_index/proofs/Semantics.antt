@@ -1,98 +1,138 @@
--- An index term has the value of its form.
-use Rattle.std.proofs.Common.{◌≡◌, true, false, cond, ℤ, pos, neg_ℤ, ◌+ℤ◌, List, Option, Some, None, refl, sym, ap, subst, ◌∙◌}
-use Rattle.hp_math.specs.Rational.{ℚ, whole, ◌+ℚ◌, ◌-ℚ◌, neg_ℚ, is_whole}
+-- An index term has the value of its form, and a pointer term that of its name.
+use Rattle.std.proofs.Common.{◌≡◌, true, ◌&&◌, ◌||◌, ℤ, pos, neg_ℤ, ◌+ℤ◌, ◌-ℤ◌, List, Option, None, refl, sym, ap, subst, ◌∙◌, ◌⊎◌, inl, inr, arith}
+use Rattle.std.specs.Option.{option_or}
+use Rattle.std.proofs.lemmas.Bool.{and_parts}
+use Rattle.std.proofs.lemmas.Int.{ints}
+use Rattle.hp_math.specs.Rational.{ℚ, whole, ◌+ℚ◌, ◌-ℚ◌, neg_ℚ}
 use Rattle.hp_math.proofs.Field.{+ℚ_zero, +ℚ_comm, +ℚ_assoc}
-use Rattle.hp_tree.specs.declared.term.Term.{Term, fold-roll-Term, ind-Term, roll-Term, map-Term}
+use Rattle.hp_tree.specs.declared.term.Term.{Term, fold-roll-Term, roll-Term, map-Term}
 use Rattle.hp_tree.specs.declared.term.Term.TheOpen.{Term-F}
-use Rattle.hp_lit.specs.declared.literal.Name.{Name}
-use Rattle.hp_lit.specs.Truth.{Values, name_value, optional_value}
+use Rattle.hp_tree.specs.declared.problem.Sort.{Sort}
+use Rattle.hp_tree.specs.declared.problem.Sort.TheVariants.{Idx, Ptr}
 use Rattle.hp_tree.specs.Value.{Word, Environment, Functions, value, value_step}
-use Rattle.hp_lit.specs.Words.{Agrees, number}
+use Rattle.hp_terms.specs.declared.forms.Forms.{Forms}
+use Rattle.hp_terms.specs.Sorting.{forms_of, forms_step, has_form}
+use Rattle.hp_lit.specs.declared.literal.Name.{Name}
+use Rattle.hp_lit.specs.Truth.{Values, optional_value}
+use Rattle.hp_lit.specs.Words.{Agrees, number, scope_over}
 use Rattle.hp_lit.proofs.Words.{word_value}
-use Rattle.hp_index.specs.declared.collect.Shape.{Shape}
-use Rattle.hp_index.specs.declared.collect.Shape.TheVariants.{Number, Sum, Other}
-use Rattle.hp_index.specs.Forms.{is_index_shape, is_index_term, form_of, shape_form, shape_of, shape_step, shifted, plus_shape, minus_shape, neg_shape, number_shape, named_shape}
+use Rattle.hp_index.specs.declared.form.IndexForm.{IndexForm}
+use Rattle.hp_index.specs.Forms.{above, index_of, index_step, minus_form, neg_form, plus_form}
+use Rattle.hp_index.specs.Laws.{TermsHaveFormValues, TermsHavePointerValues}
+use Rattle.hp_index.specs.Pointers.{pointer_of, pointer_step}
 use Rattle.hp_index.specs.Values.{form_value}
-use Rattle.hp_index.specs.Laws.{TermsHaveFormValues}
+use Rattle.hp_index.proofs.Layers.{Parts, bare, by_layers}
+use Rattle.hp_index.proofs.Named.{IsNameOf, name_of_word, option_or-none, summands, term_base}
 use Rattle.hp_index.proofs.Numbers.{neg-whole, whole-+, whole-of}
 
+-- ---- the values of forms
+zero_plus : (x : ℚ) → x ≡ whole (pos 0) +ℚ x
+zero_plus x = sym (+ℚ_zero x) ∙ +ℚ_comm x (whole (pos 0))
+
+less : (m n : ℤ) → m +ℤ neg_ℤ n ≡ m -ℤ n
+less m n = omega (arith, ints)
+
 module _ (v : Values) where
-  abbrev pub HasValue : Shape → ℚ → Type 0
-  HasValue (Number k) x = x ≡ whole k
-  HasValue (Sum form) x = x ≡ form_value v form
-  HasValue Other x = Unit {0}
+  -- a form without a name has the value of its number
+  alone_value : (g : IndexForm) (y : ℚ) → g.base ≡ None → y ≡ form_value v g → y ≡ whole g.offset
+  alone_value g y e h = h ∙ ap (λ o. optional_value v o +ℚ whole g.offset) e ∙ sym (zero_plus (whole g.offset))
 
-  zero_plus : (k : ℤ) → whole k ≡ whole (pos 0) +ℚ whole k
-  zero_plus k = sym (+ℚ_zero (whole k)) ∙ +ℚ_comm (whole k) (whole (pos 0))
+  above_plus : (base : Option Name) (m n : ℤ) → form_value v (above base m) +ℚ whole n ≡ form_value v (above base (m +ℤ n))
+  above_plus base m n = +ℚ_assoc (optional_value v base) (whole m) (whole n) ∙ ap (λ y. optional_value v base +ℚ y) (whole-+ m n)
 
-  shifted_value : (s : Shape) (k : ℤ) (x : ℚ) → HasValue s x → HasValue (shifted s k) (x +ℚ whole k)
-  shifted_value (Number n) k x h = ap (λ y. y +ℚ whole k) h ∙ whole-+ n k ∙ zero_plus (n +ℤ k)
-  shifted_value (Sum form) k x h = ap (λ y. y +ℚ whole k) h ∙ +ℚ_assoc (optional_value v form.base) (whole form.offset) (whole k)
-      ∙ ap (λ y. optional_value v form.base +ℚ y) (whole-+ form.offset k)
-  shifted_value Other k x h = tt
+  plus_right : (f g : IndexForm) (x y : ℚ) → x ≡ form_value v f → y ≡ form_value v g → g.base ≡ None → x +ℚ y ≡ form_value v (plus_form f g)
+  plus_right f g x y p q e = (λ i. p i +ℚ alone_value g y e q i) ∙ above_plus f.base f.offset g.offset
+      ∙ ap (λ o. form_value v (above o (f.offset +ℤ g.offset))) (sym (ap (option_or f.base) e ∙ option_or-none f.base))
 
-  plus_value : (s t : Shape) (x y : ℚ) → HasValue s x → HasValue t y → HasValue (plus_shape s t) (x +ℚ y)
-  plus_value s (Number k) x y h g = subst (λ z. HasValue (shifted s k) (x +ℚ z)) (sym g) (shifted_value s k x h)
-  plus_value (Number k) (Sum form) x y h g =
-      subst (HasValue (shifted (Sum form) k)) (+ℚ_comm y x) (subst (λ z. HasValue (shifted (Sum form) k) (y +ℚ z)) (sym h) (shifted_value (Sum form) k y g))
-  plus_value (Sum other) (Sum form) x y h g = tt
-  plus_value Other (Sum form) x y h g = tt
-  plus_value s Other x y h g = tt
+  plus_left : (f g : IndexForm) (x y : ℚ) → x ≡ form_value v f → y ≡ form_value v g → f.base ≡ None → x +ℚ y ≡ form_value v (plus_form f g)
+  plus_left f g x y p q e = (λ i. alone_value f x e p i +ℚ q i) ∙ +ℚ_comm (whole f.offset) (form_value v g) ∙ +ℚ_assoc (optional_value v g.base) (whole g.offset) (whole f.offset)
+      ∙ ap (λ z. optional_value v g.base +ℚ z) (+ℚ_comm (whole g.offset) (whole f.offset) ∙ whole-+ f.offset g.offset)
+      ∙ ap (λ o. form_value v (above o (f.offset +ℤ g.offset))) (sym (ap (λ o. option_or o g.base) e))
 
-  minus_value : (s t : Shape) (x y : ℚ) → HasValue s x → HasValue t y → HasValue (minus_shape s t) (x -ℚ y)
-  minus_value s (Number k) x y h g = subst (λ z. HasValue (shifted s (neg_ℤ k)) (x +ℚ z)) (sym (ap neg_ℚ g ∙ neg-whole k)) (shifted_value s (neg_ℤ k) x h)
-  minus_value s (Sum form) x y h g = tt
-  minus_value s Other x y h g = tt
+  minus_value : (f g : IndexForm) (x y : ℚ) → x ≡ form_value v f → y ≡ form_value v g → g.base ≡ None → x -ℚ y ≡ form_value v (minus_form f g)
+  minus_value f g x y p q e = (λ i. p i -ℚ alone_value g y e q i) ∙ ap (λ z. form_value v f +ℚ z) (neg-whole g.offset) ∙ above_plus f.base f.offset (neg_ℤ g.offset)
+      ∙ ap (λ n. form_value v (above f.base n)) (less f.offset g.offset)
 
-  neg_value : (s : Shape) (x : ℚ) → HasValue s x → HasValue (neg_shape s) (neg_ℚ x)
-  neg_value (Number k) x h = ap neg_ℚ h ∙ neg-whole k ∙ zero_plus (neg_ℤ k)
-  neg_value (Sum form) x h = tt
-  neg_value Other x h = tt
+  neg_value : (f : IndexForm) (x : ℚ) → x ≡ form_value v f → f.base ≡ None → neg_ℚ x ≡ form_value v (neg_form f)
+  neg_value f x p e = ap neg_ℚ (alone_value f x e p) ∙ neg-whole f.offset ∙ zero_plus (whole (neg_ℤ f.offset))
 
-  number_value : (q : ℚ) → HasValue (number_shape q) q
-  number_value q = (elim (is_whole q) as (λ b. is_whole q ≡ b → HasValue (cond b (Number q.num) Other) q) [ true ↦ λ t. whole-of q t | false ↦ λ t. tt ]) refl
+module _ (words : List Word) (sorts : List Sort) (v : Values) (env : Environment) (f : Functions) (agrees : Agrees words v env) where
+  named_value : (word : Word) (s : Sort) → IsNameOf words sorts word s → env word ≡ optional_value v (number words word)
+  named_value word s n = word_value words v env word n.name agrees n.there ∙ ap (optional_value v) (sym n.there)
 
-module _ (words : List Word) (v : Values) (env : Environment) (f : Functions) (agrees : Agrees words v env) where
-  named_value : (n : Word) → HasValue v (named_shape (number words n)) (env n)
-  named_value n = by (number words n) refl
+  -- ---- index terms
+  abbrev HasFormValue : Term → Type 0
+  HasFormValue t = has_form (forms_of (scope_over words sorts) t) Idx ≡ true → value env f t ≡ form_value v (index_of words t)
+
+  sum_value : (a b : Term) → HasFormValue a → HasFormValue b
+      → (((forms_of (scope_over words sorts) a).idx && (forms_of (scope_over words sorts) b).whole) || ((forms_of (scope_over words sorts) a).whole && (forms_of (scope_over words sorts) b).idx)) ≡ true
+      → (value env f a +ℚ value env f b) ≡ form_value v (plus_form (index_of words a) (index_of words b))
+  sum_value a b p q e = by (summands (forms_of (scope_over words sorts) a) (forms_of (scope_over words sorts) b) e)
     where
-      by : (o : Option Name) → number words n ≡ o → HasValue v (named_shape o) (env n)
-      by None e = tt
-      by (Some name) e = word_value words v env n name agrees e ∙ sym (+ℚ_zero (name_value v name.0))
+      by : (((forms_of (scope_over words sorts) a).idx ≡ true) × ((forms_of (scope_over words sorts) b).whole ≡ true)) ⊎ (((forms_of (scope_over words sorts) a).whole ≡ true) × ((forms_of (scope_over words sorts) b).idx ≡ true))
+          → (value env f a +ℚ value env f b) ≡ form_value v (plus_form (index_of words a) (index_of words b))
+      by (inl h) = plus_right v (index_of words a) (index_of words b) (value env f a) (value env f b)
+          (p h.0) (q ((term_base words sorts b).number h.1)) ((term_base words sorts b).alone h.1)
+      by (inr h) = plus_left v (index_of words a) (index_of words b) (value env f a) (value env f b)
+          (p ((term_base words sorts a).number h.0)) (q h.1) ((term_base words sorts a).alone h.0)
 
-  -- ---- terms
-  abbrev Fits : Term → Type 0
-  Fits t = HasValue v (shape_of words t) (value env f t)
+  step_value : (y : Term-F (Parts HasFormValue))
+      → has_form (forms_step (scope_over words sorts) (map-Term Term Forms (forms_of (scope_over words sorts)) (bare HasFormValue y))) Idx ≡ true
+      → value_step env f (map-Term Term ℚ (value env f) (bare HasFormValue y)) ≡ form_value v (index_step words (map-Term Term IndexForm (index_of words) (bare HasFormValue y)))
+  step_value (Term-F.Number q) e = whole-of q e ∙ zero_plus (whole q.num)
+  step_value Term-F.Null e = absurd (cc)
+  step_value (Term-F.Name n) e = named_value n Idx (name_of_word words sorts n Idx e) ∙ sym (+ℚ_zero (optional_value v (number words n)))
+  step_value (Term-F.Apply func args) e = absurd (cc)
+  step_value (Term-F.Add a b) e = sum_value a.0 b.0 a.1 b.1 e
+  step_value (Term-F.Sub a b) e =
+      let h = and_parts (forms_of (scope_over words sorts) a.0).idx (forms_of (scope_over words sorts) b.0).whole e in
+      let g = term_base words sorts b.0 in
+      minus_value v (index_of words a.0) (index_of words b.0) (value env f a.0) (value env f b.0) (a.1 h.0) (b.1 (g.number h.1)) (g.alone h.1)
+  step_value (Term-F.Neg a) e = let g = term_base words sorts a.0 in neg_value v (index_of words a.0) (value env f a.0) (a.1 (g.number e)) (g.alone e)
+  step_value (Term-F.Scale q a) e = absurd (cc)
 
-  step_value : (y : Term-F ((t : Term) × Fits t))
-      → HasValue v (shape_step words (map-Term Term Shape (shape_of words) (map-Term ((t : Term) × Fits t) Term (λ e. e.0) y)))
-      (value_step env f (map-Term Term ℚ (value env f) (map-Term ((t : Term) × Fits t) Term (λ e. e.0) y)))
-  step_value (Term-F.Number q) = number_value v q
-  step_value Term-F.Null = tt
-  step_value (Term-F.Name n) = named_value n
-  step_value (Term-F.Apply func args) = tt
-  step_value (Term-F.Add a b) = plus_value v (shape_of words a.0) (shape_of words b.0) (value env f a.0) (value env f b.0) a.1 b.1
-  step_value (Term-F.Sub a b) = minus_value v (shape_of words a.0) (shape_of words b.0) (value env f a.0) (value env f b.0) a.1 b.1
-  step_value (Term-F.Neg a) = neg_value v (shape_of words a.0) (value env f a.0) a.1
-  step_value (Term-F.Scale q a) = tt
-
-  layer_value : (y : Term-F ((t : Term) × Fits t)) → Fits (roll-Term (map-Term ((t : Term) × Fits t) Term (λ e. e.0) y))
+  layer_value : (y : Term-F (Parts HasFormValue)) → HasFormValue (roll-Term (bare HasFormValue y))
   layer_value y =
-      let z = map-Term ((t : Term) × Fits t) Term (λ e. e.0) y in
-      subst (HasValue v (shape_of words (roll-Term z))) (sym (fold-roll-Term ℚ (value_step env f) z))
-      (subst (λ s. HasValue v s (value_step env f (map-Term Term ℚ (value env f) z))) (sym (fold-roll-Term Shape (shape_step words) z)) (step_value y))
+      let z = bare HasFormValue y in
+      let scope = scope_over words sorts in
+      subst (λ g. has_form g Idx ≡ true → value env f (roll-Term z) ≡ form_value v (index_of words (roll-Term z))) (sym (fold-roll-Term Forms (forms_step scope) z))
+      (subst (λ x. has_form (forms_step scope (map-Term Term Forms (forms_of scope) z)) Idx ≡ true → x ≡ form_value v (index_of words (roll-Term z))) (sym (fold-roll-Term ℚ (value_step env f) z))
+      (subst (λ (g : IndexForm). has_form (forms_step scope (map-Term Term Forms (forms_of scope) z)) Idx ≡ true → value_step env f (map-Term Term ℚ (value env f) z) ≡ form_value v g)
+      (sym (fold-roll-Term IndexForm (index_step words) z)) (step_value y)))
 
-  shape_value : (t : Term) → Fits t
-  shape_value t = ind-Term Fits (λ x y is. subst (λ z. Fits (roll-Term z)) is (layer_value y)) t
+  pub term_value : (t : Term) → HasFormValue t
+  term_value = by_layers HasFormValue layer_value
 
-  -- an index term has the value of its form
-  pub term_value : (t : Term) → is_index_term words t ≡ true → value env f t ≡ form_value v (form_of words t)
-  term_value t = by (shape_of words t) (shape_value t)
-    where
-      by : (s : Shape) → HasValue v s (value env f t) → is_index_shape s ≡ true → value env f t ≡ form_value v (shape_form s)
-      by (Number k) h e = h ∙ zero_plus v k
-      by (Sum g) h e = h
-      by Other h e = absurd (cc)
+  -- ---- pointer terms
+  abbrev HasPointerValue : Term → Type 0
+  HasPointerValue t = has_form (forms_of (scope_over words sorts) t) Ptr ≡ true → value env f t ≡ optional_value v (pointer_of words t)
+
+  step_pointer : (y : Term-F (Parts HasPointerValue))
+      → has_form (forms_step (scope_over words sorts) (map-Term Term Forms (forms_of (scope_over words sorts)) (bare HasPointerValue y))) Ptr ≡ true
+      → value_step env f (map-Term Term ℚ (value env f) (bare HasPointerValue y)) ≡ optional_value v (pointer_step words (map-Term Term (Option Name) (pointer_of words) (bare HasPointerValue y)))
+  step_pointer (Term-F.Number q) e = absurd (cc)
+  step_pointer Term-F.Null e = refl
+  step_pointer (Term-F.Name n) e = named_value n Ptr (name_of_word words sorts n Ptr e)
+  step_pointer (Term-F.Apply func args) e = absurd (cc)
+  step_pointer (Term-F.Add a b) e = absurd (cc)
+  step_pointer (Term-F.Sub a b) e = absurd (cc)
+  step_pointer (Term-F.Neg a) e = absurd (cc)
+  step_pointer (Term-F.Scale q a) e = absurd (cc)
+
+  layer_pointer : (y : Term-F (Parts HasPointerValue)) → HasPointerValue (roll-Term (bare HasPointerValue y))
+  layer_pointer y =
+      let z = bare HasPointerValue y in
+      let scope = scope_over words sorts in
+      subst (λ g. has_form g Ptr ≡ true → value env f (roll-Term z) ≡ optional_value v (pointer_of words (roll-Term z))) (sym (fold-roll-Term Forms (forms_step scope) z))
+      (subst (λ x. has_form (forms_step scope (map-Term Term Forms (forms_of scope) z)) Ptr ≡ true → x ≡ optional_value v (pointer_of words (roll-Term z))) (sym (fold-roll-Term ℚ (value_step env f) z))
+      (subst (λ o. has_form (forms_step scope (map-Term Term Forms (forms_of scope) z)) Ptr ≡ true → value_step env f (map-Term Term ℚ (value env f) z) ≡ optional_value v o)
+      (sym (fold-roll-Term (Option Name) (pointer_step words) z)) (step_pointer y)))
+
+  pub pointer_value : (t : Term) → HasPointerValue t
+  pointer_value = by_layers HasPointerValue layer_pointer
 
 pub terms_have_form_values : TermsHaveFormValues
-terms_have_form_values words v env f t agrees e = term_value words v env f agrees t e
+terms_have_form_values words sorts v env f t agrees e = term_value words sorts v env f agrees t e
+
+pub terms_have_pointer_values : TermsHavePointerValues
+terms_have_pointer_values words sorts v env f t agrees e = pointer_value words sorts v env f agrees t e

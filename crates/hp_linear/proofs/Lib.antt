@@ -4,8 +4,8 @@ pub mod Naming
 pub mod Fields
 pub mod Values
 pub mod Semantics
-pub mod Compare
+pub mod Comparisons
 pub mod Rows
 pub mod Truth
-pub mod Normals
-pub mod NormalRows
+pub mod Fits
+pub mod FitRows

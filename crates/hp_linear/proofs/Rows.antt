@@ -21,20 +21,20 @@ use Rattle.hp_lit.specs.declared.literal.Part.{Part}
 use Rattle.hp_lit.specs.declared.literal.Rel.{Rel}
 use Rattle.hp_lit.specs.Truth.{Values, Compares, IsTrueAt, name_value, parts_value}
 use Rattle.hp_lit.specs.declared.literal.Lit.{Lit}
-use Rattle.hp_linear.specs.declared.form.Summand.{Summand}
-use Rattle.hp_linear.specs.declared.form.Form.{Form}
+use Rattle.hp_lit.specs.declared.line.LinPart.{LinPart}
+use Rattle.hp_lit.specs.declared.line.Lin.{Lin}
 use Rattle.hp_linear.specs.declared.wholes.Row.{Row}
 use Rattle.hp_lit.specs.declared.refusal.Refusal.TheVariants.{Wide}
 use Rattle.hp_linear.specs.Steps.{behind, unless_wide}
-use Rattle.hp_linear.specs.Forms.{minus_form}
+use Rattle.hp_linear.specs.Lins.{minus_lin}
 use Rattle.hp_linear.specs.Wholes.{denominator_of, lcm_of, lowest_row, multiple_of, one_if_zero, over, parts_divisor, row_divisor, row_of, row_over, row_with, scaled_number, scaled_parts, scaled_row, whole_copies}
 use Rattle.hp_linear.specs.Literals.{compared, row_literal}
-use Rattle.hp_linear.specs.Values.{form_value, summands_value}
+use Rattle.hp_linear.specs.Values.{lin_value, sum_value}
 use Rattle.hp_num.proofs.Divisor.{gcd-is}
 use Rattle.hp_linear.proofs.Refusals.{ok_same}
 use Rattle.hp_linear.proofs.Fields.{factor_out, times_zero}
-use Rattle.hp_linear.proofs.Values.{minus_form-value}
-use Rattle.hp_linear.proofs.Compare.{and_then, difference_compares, moved_compares, multiple_compares, turned}
+use Rattle.hp_linear.proofs.Values.{minus_lin-value}
+use Rattle.hp_linear.proofs.Comparisons.{and_then, difference_compares, moved_compares, multiple_compares, turned}
 
 -- ---- common multiples
 lcm_gave : (m d n : ℕ) → lcm_of m d ≡ Ok n → n ≡ m / gcd m d * d
@@ -69,11 +69,11 @@ lcm_multiple m d n p q e =
     }
 
 -- the denominators divide a number
-unfoldable pub AreDivisors : ℕ → List Summand → Type 0
+unfoldable pub AreDivisors : ℕ → List LinPart → Type 0
 AreDivisors m [] = Unit {0}
 AreDivisors m (s ∷ ss) = (s.coef.den ∣ m) × AreDivisors m ss
 
-multiple_gave : (ss : List Summand) (m n : ℕ) → 0 < m → multiple_of m ss ≡ Ok n → (m ∣ n) × AreDivisors n ss × (0 < n)
+multiple_gave : (ss : List LinPart) (m n : ℕ) → 0 < m → multiple_of m ss ≡ Ok n → (m ∣ n) × AreDivisors n ss × (0 < n)
 unfolding AreDivisors
 multiple_gave [] m n p e = let same = ok_same m n e in (subst (λ x. m ∣ x) same (dvd_refl m), tt, subst (λ x. 0 < x) same p)
 multiple_gave (s ∷ ss) m n p e =
@@ -82,22 +82,22 @@ multiple_gave (s ∷ ss) m n p e =
     let rest = multiple_gave ss one.value n is.some one.rest in
     (dvd_trans m is.left rest.0, (dvd_trans s.coef.den is.right rest.0, rest.1), rest.2)
 
-divisors_more : (ss : List Summand) (m n : ℕ) → m ∣ n → AreDivisors m ss → AreDivisors n ss
+divisors_more : (ss : List LinPart) (m n : ℕ) → m ∣ n → AreDivisors m ss → AreDivisors n ss
 unfolding AreDivisors
 divisors_more [] m n h all = tt
 divisors_more (s ∷ ss) m n h all = (dvd_trans s.coef.den all.0 h, divisors_more ss m n h all.1)
 
-pub record IsDenominator (f : Form) (n : ℕ) : Type 0 where
-  pub summands : AreDivisors n f.summands
-  pub constant : f.constant.den ∣ n
+pub record IsDenominator (f : Lin) (n : ℕ) : Type 0 where
+  pub parts : AreDivisors n f.parts
+  pub constant : f.rest.den ∣ n
   pub some : 0 < n
 
-pub denominator_gave : (f : Form) (n : ℕ) → denominator_of f ≡ Ok n → IsDenominator f n
+pub denominator_gave : (f : Lin) (n : ℕ) → denominator_of f ≡ Ok n → IsDenominator f n
 denominator_gave f n e =
-    let one = came (multiple_of 1 f.summands) (λ m. lcm_of m f.constant.den) n e in
-    let all = multiple_gave f.summands 1 one.value (omega arith) one.first in
-    let is = lcm_multiple one.value f.constant.den n all.2 f.constant.positive one.rest in
-    record { summands = divisors_more f.summands one.value n is.left all.1; constant = is.right; some = is.some }
+    let one = came (multiple_of 1 f.parts) (λ m. lcm_of m f.rest.den) n e in
+    let all = multiple_gave f.parts 1 one.value (omega arith) one.first in
+    let is = lcm_multiple one.value f.rest.den n all.2 f.rest.positive one.rest in
+    record { parts = divisors_more f.parts one.value n is.left all.1; constant = is.right; some = is.some }
 
 -- ---- whole numbers
 dvd-one : (n : ℕ) → 1 ∣ n
@@ -171,7 +171,7 @@ module _ (v : Values) where
   row_value r = parts_value v r.parts +ℚ whole r.constant
 
   -- ---- a form times its denominator
-  scaled_parts-value : (m : ℕ) (ss : List Summand) (ps : List Part) → AreDivisors m ss → scaled_parts m ss ≡ Ok ps → parts_value v ps ≡ whole (pos m) *ℚ summands_value v ss
+  scaled_parts-value : (m : ℕ) (ss : List LinPart) (ps : List Part) → AreDivisors m ss → scaled_parts m ss ≡ Ok ps → parts_value v ps ≡ whole (pos m) *ℚ sum_value v ss
   unfolding AreDivisors
   scaled_parts-value m [] ps all e = ap (parts_value v) (sym (ok_same [] ps e)) ∙ sym (times_zero (whole (pos m)))
   scaled_parts-value m (s ∷ ss) ps all e =
@@ -180,15 +180,15 @@ module _ (v : Values) where
       let two = came (scaled_parts m ss) (λ us. Ok (whole_copies s.name one.value ∷ us)) ps one.rest in
       ap (parts_value v) (sym (ok_same (whole_copies s.name one.value ∷ two.value) ps two.rest))
       ∙ (λ i. scaled_value m s.coef one.value all.0 one.first i *ℚ w +ℚ scaled_parts-value m ss two.value all.1 two.first i)
-      ∙ factor_out (whole (pos m)) s.coef w (summands_value v ss)
+      ∙ factor_out (whole (pos m)) s.coef w (sum_value v ss)
 
-  scaled_row-value : (m : ℕ) (f : Form) (r : Row) → IsDenominator f m → scaled_row m f ≡ Ok r → row_value r ≡ whole (pos m) *ℚ form_value v f
+  scaled_row-value : (m : ℕ) (f : Lin) (r : Row) → IsDenominator f m → scaled_row m f ≡ Ok r → row_value r ≡ whole (pos m) *ℚ lin_value v f
   scaled_row-value m f r is e =
-      let one = came (scaled_parts m f.summands) (λ ps. scaled_number m f.constant >>= λ c. Ok (row_with ps c)) r e in
-      let two = came (scaled_number m f.constant) (λ c. Ok (row_with one.value c)) r one.rest in
+      let one = came (scaled_parts m f.parts) (λ ps. scaled_number m f.rest >>= λ c. Ok (row_with ps c)) r e in
+      let two = came (scaled_number m f.rest) (λ c. Ok (row_with one.value c)) r one.rest in
       ap row_value (sym (ok_same (row_with one.value two.value) r two.rest))
-      ∙ (λ i. scaled_parts-value m f.summands one.value is.summands one.first i +ℚ scaled_value m f.constant two.value is.constant two.first i)
-      ∙ sym (*ℚ-+ℚ (whole (pos m)) (summands_value v f.summands) f.constant)
+      ∙ (λ i. scaled_parts-value m f.parts one.value is.parts one.first i +ℚ scaled_value m f.rest two.value is.constant two.first i)
+      ∙ sym (*ℚ-+ℚ (whole (pos m)) (sum_value v f.parts) f.rest)
 
   -- ---- a row over a divisor
   quotient_value : (g : ℕ) (n : ℤ) → g ∣ unsigned_abs n → whole n ≡ whole (pos g) *ℚ whole (int_div n (pos g))
@@ -210,14 +210,14 @@ module _ (v : Values) where
       ∙ sym (*ℚ-+ℚ (whole (pos g)) (parts_value v (map (over g) r.parts)) (whole (int_div r.constant (pos g))))
 
   -- ---- a form and its row
-  pub record IsProportional (f : Form) (w : Row) : Type 0 where
+  pub record IsProportional (f : Lin) (w : Row) : Type 0 where
     pub multiple : ℕ
     pub divisor : ℕ
     pub some_multiple : 0 < multiple
     pub some_divisor : 0 < divisor
-    pub same : whole (pos divisor) *ℚ row_value w ≡ whole (pos multiple) *ℚ form_value v f
+    pub same : whole (pos divisor) *ℚ row_value w ≡ whole (pos multiple) *ℚ lin_value v f
 
-  row_proportional : (f : Form) (w : Row) → row_of f ≡ Ok w → IsProportional f w
+  row_proportional : (f : Lin) (w : Row) → row_of f ≡ Ok w → IsProportional f w
   row_proportional f w e =
       let one = came (denominator_of f) (λ m. scaled_row m f >>= λ r. Ok (lowest_row r)) w e in
       let two = came (scaled_row one.value f) (λ r. Ok (lowest_row r)) w one.rest in
@@ -234,20 +234,20 @@ module _ (v : Values) where
       }
 
   -- a row stands to 0 as its form does
-  row_compares : (rel : Rel) (f : Form) (w : Row) → row_of f ≡ Ok w → Compares rel (row_value w) (whole (pos 0)) ↔ Compares rel (form_value v f) (whole (pos 0))
+  row_compares : (rel : Rel) (f : Lin) (w : Row) → row_of f ≡ Ok w → Compares rel (row_value w) (whole (pos 0)) ↔ Compares rel (lin_value v f) (whole (pos 0))
   row_compares rel f w e =
       let is = row_proportional f w e in
       let left = multiple_compares rel is.divisor (row_value w) is.some_divisor in
-      let right = multiple_compares rel is.multiple (form_value v f) is.some_multiple in
-      and_then (turned left) (subst (λ x. Compares rel x (whole (pos 0)) ↔ Compares rel (form_value v f) (whole (pos 0))) (sym is.same) right)
+      let right = multiple_compares rel is.multiple (lin_value v f) is.some_multiple in
+      and_then (turned left) (subst (λ x. Compares rel x (whole (pos 0)) ↔ Compares rel (lin_value v f) (whole (pos 0))) (sym is.same) right)
 
   -- the literal that compares two forms is true exactly where their values stand in the relation
-  pub compared_true : (rel : Rel) (l r : Form) (lit : Lit) → compared rel l r ≡ Ok lit → IsTrueAt v lit ↔ Compares rel (form_value v l) (form_value v r)
+  pub compared_true : (rel : Rel) (l r : Lin) (lit : Lit) → compared rel l r ≡ Ok lit → IsTrueAt v lit ↔ Compares rel (lin_value v l) (lin_value v r)
   compared_true rel l r lit e =
-      let one = came (minus_form l r) (λ f. row_of f >>= λ w. Ok (row_literal rel w)) lit e in
+      let one = came (minus_lin l r) (λ f. row_of f >>= λ w. Ok (row_literal rel w)) lit e in
       let two = came (row_of one.value) (λ w. Ok (row_literal rel w)) lit one.rest in
       let w = two.value in
-      let same = minus_form-value v l r one.value one.first in
-      subst (λ (x : Lit). IsTrueAt v x ↔ Compares rel (form_value v l) (form_value v r)) (ok_same (row_literal rel w) lit two.rest)
+      let same = minus_lin-value v l r one.value one.first in
+      subst (λ (x : Lit). IsTrueAt v x ↔ Compares rel (lin_value v l) (lin_value v r)) (ok_same (row_literal rel w) lit two.rest)
       (and_then (moved_compares rel (parts_value v w.parts) w.constant) (and_then (row_compares rel one.value w two.first)
-      (subst (λ x. Compares rel x (whole (pos 0)) ↔ Compares rel (form_value v l) (form_value v r)) (sym same) (difference_compares rel (form_value v l) (form_value v r)))))
+      (subst (λ x. Compares rel x (whole (pos 0)) ↔ Compares rel (lin_value v l) (lin_value v r)) (sym same) (difference_compares rel (lin_value v l) (lin_value v r)))))

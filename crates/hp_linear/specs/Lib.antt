@@ -1,8 +1,8 @@
 pub mod Steps
-pub mod Forms
+pub mod Lins
 pub mod Wholes
 pub mod Literals
-pub mod Normal
+pub mod Fit
 pub mod Values
 pub mod Laws
 pub mod Answers

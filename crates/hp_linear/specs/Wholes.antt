@@ -6,8 +6,8 @@ use Rattle.hp_num.specs.Wide.{times_of, ◌>>=◌}
 use Rattle.hp_num.specs.Divisor.{gcd}
 use Rattle.hp_lit.specs.declared.literal.Name.{Name}
 use Rattle.hp_lit.specs.declared.literal.Part.{Part}
-use Rattle.hp_linear.specs.declared.form.Summand.{Summand}
-use Rattle.hp_linear.specs.declared.form.Form.{Form}
+use Rattle.hp_lit.specs.declared.line.LinPart.{LinPart}
+use Rattle.hp_lit.specs.declared.line.Lin.{Lin}
 use Rattle.hp_lit.specs.declared.refusal.Refusal.TheVariants.{Wide}
 use Rattle.hp_linear.specs.declared.wholes.Row.{Row}
 use Rattle.hp_linear.specs.Steps.{Refusable, behind, unless_wide}
@@ -18,13 +18,13 @@ abbrev pub lcm_of : ℕ → ℕ → Refusable ℕ
 lcm_of m d = if nat_lt (m / gcd m d * d) (2 ^ 127) then Ok (m / gcd m d * d) else Err Wide
 
 -- the least common multiple so far, and those of the coefficients that follow
-abbrev pub multiple_of : ℕ → List Summand → Refusable ℕ
+abbrev pub multiple_of : ℕ → List LinPart → Refusable ℕ
 multiple_of m [] = Ok m
 multiple_of m (s ∷ ss) = lcm_of m s.coef.den >>= λ n. multiple_of n ss
 
 -- the least common multiple of the denominators, that of the constant last
-abbrev pub denominator_of : Form → Refusable ℕ
-denominator_of f = multiple_of 1 f.summands >>= λ m. lcm_of m f.constant.den
+abbrev pub denominator_of : Lin → Refusable ℕ
+denominator_of f = multiple_of 1 f.parts >>= λ m. lcm_of m f.rest.den
 
 -- ---- whole numbers
 abbrev pub whole_copies : Name → ℤ → Part
@@ -37,12 +37,12 @@ row_with parts constant = record { parts = parts; constant = constant }
 abbrev pub scaled_number : ℕ → ℚ → Refusable ℤ
 scaled_number m q = unless_wide (times_of q.num (pos (m / q.den)))
 
-abbrev pub scaled_parts : ℕ → List Summand → Refusable (List Part)
+abbrev pub scaled_parts : ℕ → List LinPart → Refusable (List Part)
 scaled_parts m [] = Ok []
 scaled_parts m (s ∷ ss) = scaled_number m s.coef >>= λ n. behind (whole_copies s.name n ∷ []) (scaled_parts m ss)
 
-abbrev pub scaled_row : ℕ → Form → Refusable Row
-scaled_row m f = scaled_parts m f.summands >>= λ parts. scaled_number m f.constant >>= λ constant. Ok (row_with parts constant)
+abbrev pub scaled_row : ℕ → Lin → Refusable Row
+scaled_row m f = scaled_parts m f.parts >>= λ parts. scaled_number m f.rest >>= λ constant. Ok (row_with parts constant)
 
 -- a magnitude of at most 2^127 - 1
 abbrev pub IsNarrowPart : Part → Type 0
@@ -73,5 +73,5 @@ row_over g r = row_with (map (over g) r.parts) (int_div r.constant (pos g))
 abbrev pub lowest_row : Row → Row
 lowest_row r = row_over (one_if_zero (row_divisor r)) r
 
-abbrev pub row_of : Form → Refusable Row
+abbrev pub row_of : Lin → Refusable Row
 row_of f = denominator_of f >>= λ m. scaled_row m f >>= λ r. Ok (lowest_row r)

@@ -2,7 +2,7 @@
 
 ghost use Rattle.std.specs.Prelude.{◌≡◌, ◌<◌, ◌^◌, unsigned_abs};
 ghost use Rattle.hp_linear.specs.Steps.{unless_wide};
-ghost use Rattle.hp_linear.specs.Forms.{sum_of, product_of};
+ghost use Rattle.hp_linear.specs.Lins.{sum_of, product_of};
 ghost use Rattle.hp_linear.specs.Wholes.{lcm_of, scaled_number};
 
 use hp_lit::Refusal;

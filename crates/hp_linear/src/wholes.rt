@@ -7,13 +7,12 @@ ghost use Rattle.hp_lit.specs.declared.refusal.Refusal.TheVariants.{Memory};
 ghost use Rattle.hp_linear.specs.Wholes.{IsNarrowPart, IsNarrowRow, denominator_of, lowest_row, multiple_of, one_if_zero, over, parts_divisor, row_divisor, row_of, scaled_parts, scaled_row, whole_copies};
 ghost use Rattle.hp_linear.specs.Answers.{Answers};
 
-use crate::form::{Form, Summand};
 use crate::numbers::{lcm, magnitude, scaled};
-use hp_lit::{Name, Part, Refusal};
+use hp_lit::{Lin, LinPart, Name, Part, Refusal};
 use hp_num::{List, gcd};
 use std::alloc::Global;
 
-/// A sum of whole copies of constants and a whole number.
+/// A sum of whole copies of names and a whole number.
 #[derive(Drop)]
 pub struct Row {
     pub parts: List<Part>,
@@ -21,7 +20,7 @@ pub struct Row {
 }
 
 /// A form times the least common multiple of its denominators, over the greatest common divisor of its numbers.
-pub fn row_of(alloc: Global, form: &Form) -> Result<Row, Refusal>
+pub fn row_of(alloc: Global, form: &Lin) -> Result<Row, Refusal>
     ensures row { Answers (row_of form.now) result }
     ensures narrow { IfOk result (λ row. unsigned_abs row.constant < 2 ^ 127) }
 {
@@ -31,16 +30,16 @@ pub fn row_of(alloc: Global, form: &Form) -> Result<Row, Refusal>
 }
 
 /// The least common multiple of the denominators, that of the constant last.
-fn denominator(form: &Form) -> Result<u128, Refusal>
+fn denominator(form: &Lin) -> Result<u128, Refusal>
     ensures value { result ≡ denominator_of form.now }
     ensures narrow { IfOk result (λ multiple. multiple < 2 ^ 127) }
 {
-    let multiple = multiple_of(form.summands.as_slice())?;
-    lcm(multiple, form.constant.den().unsigned_abs())
+    let multiple = multiple_of(form.parts.as_slice())?;
+    lcm(multiple, form.rest.den().unsigned_abs())
 }
 
 /// The least common multiple of the denominators of coefficients.
-fn multiple_of(summands: &[Summand]) -> Result<u128, Refusal>
+fn multiple_of(summands: &[LinPart]) -> Result<u128, Refusal>
     ensures { result ≡ multiple_of 1 summands.now }
 {
     let mut multiple = 1;
@@ -51,18 +50,18 @@ fn multiple_of(summands: &[Summand]) -> Result<u128, Refusal>
 }
 
 /// A form times a common multiple of its denominators.
-fn scaled_row(alloc: Global, multiple: u128, form: &Form) -> Result<Row, Refusal>
+fn scaled_row(alloc: Global, multiple: u128, form: &Lin) -> Result<Row, Refusal>
     requires { multiple < 2 ^ 127 }
     ensures row { Answers (scaled_row multiple form.now) result }
     ensures narrow { IfOk result IsNarrowRow }
 {
-    let parts = scaled_parts(alloc, multiple, form.summands.as_slice())?;
-    let constant = scaled(multiple, form.constant)?;
+    let parts = scaled_parts(alloc, multiple, form.parts.as_slice())?;
+    let constant = scaled(multiple, form.rest)?;
     Ok(Row { parts, constant })
 }
 
 /// Summands times a common multiple of their denominators.
-fn scaled_parts(alloc: Global, multiple: u128, summands: &[Summand]) -> Result<List<Part>, Refusal>
+fn scaled_parts(alloc: Global, multiple: u128, summands: &[LinPart]) -> Result<List<Part>, Refusal>
     requires { multiple < 2 ^ 127 }
     ensures parts { Answers (scaled_parts multiple summands.now) result }
     ensures narrow { IfOk result (All IsNarrowPart) }

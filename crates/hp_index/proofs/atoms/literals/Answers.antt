@@ -1,9 +1,7 @@
-use Rattle.std.proofs.Common.{ap, ◌∙◌}
-use Rattle.hp_index.specs.Forms.{shape_form}
 use Rattle.hp_index.proofs.Steps.{atom_pushed}
 use Rattle.hp_index.proofs.atoms.literals.Goals as goal
 
-pub returns-in-Some-collect : goal.returns-in-Some-collect
-returns-in-Some-collect c =
-    atom_pushed c.args.index.now c.args.side c.args.atom.now c.taken.result c.form.result c.form-in-Some-collect.result c.args.lits.now c.push_literals.new.lits c.push_literals.result
-    (c.form.ensures ∙ ap shape_form c.in-Some.ensures.0) (c.form-in-Some-collect.ensures ∙ ap shape_form c.in-Some-collect.ensures.0) c.taken.ensures c.push_literals.ensures
+pub returns-in_ok-form_literals-in-Some-index_form : goal.returns-in_ok-form_literals-in-Some-index_form
+returns-in_ok-form_literals-in-Some-index_form c =
+    atom_pushed c.args.index.now c.args.positive c.args.atom.now c.signed.result c.in-Some.left c.in-Some-index_form.right c.args.lits.now c.form_literals.new.lits
+    c.in-Some.ensures.0 c.in-Some-index_form.ensures.0 c.signed.ensures c.in-Some.ensures.1 c.in-Some-index_form.ensures.1 c.in_ok-form_literals-in-Some-index_form.ensures

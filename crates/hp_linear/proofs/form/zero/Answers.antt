@@ -1,6 +1,0 @@
-use Rattle.std.proofs.Common.{◌∙◌}
-use Rattle.hp_linear.proofs.Naming.{zero_found}
-use Rattle.hp_linear.proofs.form.zero.Goals as goal
-
-pub returns : goal.returns
-returns c = c.number.ensures ∙ zero_found c.new.result c.new.ensures
