@@ -3,7 +3,7 @@
 ghost use Rattle.std.specs.Prelude.{◌≡◌};
 ghost use Rattle.hp_descent.specs.declared.answer.DescentErr.TheVariants.{Memory as memory};
 
-use hp_lit::{Choice, NameValue, Share};
+use hp_lit::{Choice, NameValue, Share, Valuation};
 use hp_num::{List, Wide};
 use std::alloc::AllocError;
 
@@ -74,6 +74,17 @@ pub enum Place {
 pub struct Strain {
     pub place: Place,
     pub row: RowStrain,
+}
+
+/// Values that make every line of a ground problem true, and the honest path at which they were found: before each of its
+/// choices some values make the choices so far true and the line of the choice false.
+#[derive(Drop)]
+pub struct Solution {
+    pub values: Valuation,
+    pub path: List<Choice>,
+    /// Where the search was to be exact, the rows of a chain of the literals over fractions of the path, whose numbers count
+    /// from 1 (that of t) and fall: its point gives the values of the names of sort num.
+    pub chain: Option<List<u32>>,
 }
 
 /// Why there is no answer: a number on the way passes 2^127 - 1, or memory was wanting.

@@ -15,7 +15,9 @@ mod rows;
 mod shares;
 mod sums;
 
-pub use answer::{At, ChainAnswer, DescentErr, Form, NumAnswer, Place, RowStrain, Strain};
+pub use answer::{
+    At, ChainAnswer, DescentErr, Form, NumAnswer, Place, RowStrain, Solution, Strain,
+};
 pub use chained::value_at;
 pub use columns::columns_of;
 pub use decision::{decide, decide_chain};

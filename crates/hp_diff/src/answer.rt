@@ -10,10 +10,10 @@ ghost use Rattle.hp_lit.specs.Fit.{IsSmallBound};
 ghost use Rattle.hp_diff.specs.inner.Settled.{AreValues, value_at};
 
 use crate::edges::{Edge, edges_of};
-use crate::names::distinct_names;
 use crate::order::in_order;
 use crate::outcome::{Settled, settle};
 use hp_lit::{IdxLit, Name, NameValue, Step};
+use hp_nodes::distinct_names;
 use hp_num::{Frac, List};
 use std::alloc::{AllocError, Global};
 

@@ -8,7 +8,6 @@ mod answer;
 mod cycles;
 mod edges;
 mod labels;
-mod names;
 mod order;
 mod outcome;
 mod parents;

@@ -1,14 +1,16 @@
 -- Evidence over some literals of a path, once each literal has its number along the path, is evidence over the path.
-use Rattle.std.proofs.Common.{◌≡◌, ℕ, zero, suc, ◌-◌, ◌+◌, ◌<◌, ◌≤◌, sym, ap, subst, arith, List, [], ◌∷◌, Some, cond, false, nat_eq}
+use Rattle.std.proofs.Common.{◌≡◌, ℕ, zero, suc, ◌-◌, ◌+◌, ◌<◌, ◌≤◌, sym, ap, subst, arith, List, [], ◌∷◌, Option, Some, cond, false, nat_eq}
 use Rattle.std.specs.Prelude.{slice_get, slice_index_or}
 use Rattle.hp_lit.specs.declared.literal.IdxLit.{IdxLit}
 use Rattle.hp_lit.specs.declared.literal.Lit.{Lit}
-use Rattle.hp_lit.specs.declared.literal.Lit.TheVariants.{Num, Idx}
+use Rattle.hp_lit.specs.declared.literal.Name.{Name}
+use Rattle.hp_lit.specs.declared.literal.Lit.TheVariants.{Num, Idx, Ptr}
 use Rattle.hp_lit.specs.declared.proof.Share.{Share}
 use Rattle.hp_lit.specs.declared.proof.Step.{Step}
 use Rattle.hp_lit.specs.Cycle.{AreRowsOf, IsLit, IsRowOf, IsValidIdx}
 use Rattle.hp_lit.specs.Leaf.{AreTaken, IsRising, IsValidNum, Taken}
-use Rattle.hp_leaf.specs.Renumbered.{RenumberingKeepsLeaves, Stands, StandsFrom, place_at, renumbered_shares, renumbered_step, renumbered_steps}
+use Rattle.hp_lit.specs.Pointers.{IsValidPtr, Joins, JoinsAll}
+use Rattle.hp_leaf.specs.Renumbered.{RenumberingKeepsLeaves, Stands, StandsFrom, place_at, renumbered_links, renumbered_shares, renumbered_step, renumbered_steps}
 
 -- ---- one literal, counted from 0
 -- the k-th literal stands at the k-th place, which is no less than the number that the places rise from
@@ -102,5 +104,27 @@ idx_placed path lits places steps s v = record {
   below = v.below;
 }
 
+-- ---- conflicts of pointers
+join_placed : (path lits : List Lit) (places : List ℕ) (n : ℕ) (a b : Option Name) → Stands path lits places → Joins lits n a b → Joins path (place_at places n) a b
+join_placed path lits places n a b s h = record {
+  lit = h.lit;
+  at = lit_placed path lits places n (Ptr h.lit) s h.at;
+  same = h.same;
+  ends = h.ends;
+}
+
+joins_placed : (path lits : List Lit) (places : List ℕ) (a b : Option Name) (ns : List ℕ) → Stands path lits places → JoinsAll lits a ns b → JoinsAll path a (renumbered_links places ns) b
+joins_placed path lits places a b [] s h = h
+joins_placed path lits places a b (n ∷ ns) s h = (h.0, join_placed path lits places n a h.0 s h.1, joins_placed path lits places h.0 b ns s h.2)
+
+-- a conflict over literals that stand in the path is one over the path
+pub ptr_placed : (path lits : List Lit) (places : List ℕ) (ne : ℕ) (links : List ℕ) → Stands path lits places → IsValidPtr lits ne links → IsValidPtr path (place_at places ne) (renumbered_links places links)
+ptr_placed path lits places ne links s v = record {
+  lit = v.lit;
+  at = lit_placed path lits places ne (Ptr v.lit) s v.at;
+  apart = v.apart;
+  joined = joins_placed path lits places v.lit.left v.lit.right links s v.joined;
+}
+
 pub renumbering_keeps_leaves : RenumberingKeepsLeaves
-renumbering_keeps_leaves = record { num = num_placed; idx = idx_placed }
+renumbering_keeps_leaves = record { num = num_placed; idx = idx_placed; ptr = ptr_placed }

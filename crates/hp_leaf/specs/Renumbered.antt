@@ -5,6 +5,7 @@ use Rattle.hp_lit.specs.declared.proof.Share.{Share}
 use Rattle.hp_lit.specs.declared.proof.Step.{Step}
 use Rattle.hp_lit.specs.Cycle.{IsLit, IsValidIdx}
 use Rattle.hp_lit.specs.Leaf.{IsValidNum}
+use Rattle.hp_lit.specs.Pointers.{IsValidPtr}
 
 -- the n-th place, counted from 1, or 0 where there is none
 abbrev pub place_at : List ℕ → ℕ → ℕ
@@ -23,6 +24,9 @@ renumbered_step places s = record { lit = place_at places s.lit; forward = s.for
 abbrev pub renumbered_steps : List ℕ → List Step → List Step
 renumbered_steps places steps = map (renumbered_step places) steps
 
+abbrev pub renumbered_links : List ℕ → List ℕ → List ℕ
+renumbered_links places links = map (place_at places) links
+
 -- each literal stands in the path at its place, counted from 1, and the places rise strictly, from n on
 abbrev pub StandsFrom : ℕ → List Lit → List Lit → List ℕ → Type 0
 StandsFrom n path [] [] = Unit {0}
@@ -37,3 +41,4 @@ Stands path lits places = StandsFrom 0 path lits places
 pub record RenumberingKeepsLeaves : Type 0 where
   pub num : (path lits : List Lit) (places : List ℕ) (shares : List Share) → Stands path lits places → IsValidNum lits shares → IsValidNum path (renumbered_shares places shares)
   pub idx : (path lits : List Lit) (places : List ℕ) (steps : List Step) → Stands path lits places → IsValidIdx lits steps → IsValidIdx path (renumbered_steps places steps)
+  pub ptr : (path lits : List Lit) (places : List ℕ) (ne : ℕ) (links : List ℕ) → Stands path lits places → IsValidPtr lits ne links → IsValidPtr path (place_at places ne) (renumbered_links places links)

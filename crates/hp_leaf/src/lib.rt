@@ -13,7 +13,7 @@ mod side;
 mod tree;
 
 pub use leaf::check_leaf;
-pub use renumbering::{renumber_shares, renumber_steps};
+pub use renumbering::{place_at, renumber_links, renumber_shares, renumber_steps};
 pub use tree::{LeafProof, Node};
 
 /// No values make all lines of a closed tree true.

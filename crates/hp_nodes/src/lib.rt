@@ -2,5 +2,7 @@
 #![tactic(auto)]
 
 mod names;
+mod sided;
 
-pub use names::{distinct, mention, node_of};
+pub use names::node_of;
+pub use sided::{Sided, distinct_names};

@@ -3,3 +3,4 @@ pub mod Splitting
 pub mod Mixed
 pub mod Merging
 pub mod Gathering
+pub mod Chained

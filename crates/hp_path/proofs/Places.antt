@@ -18,26 +18,23 @@ use Rattle.hp_lit.specs.Truth.{Values, name_value}
 use Rattle.hp_diff.specs.Rows.{IsSmallWhole}
 use Rattle.hp_descent.specs.Values.{value_in}
 use Rattle.hp_path.specs.Decided.{AreSmallIdx}
-use Rattle.hp_path.specs.Placed.{AreApart, IsValueOver, put_all}
+use Rattle.hp_path.specs.Placed.{AreApart, IsValueOf, IsValueOver, put_all}
 
 -- ---- the sorts of values
+of_sort : (t : Sort) (x : ℚ) → IsValueOf t x → IsOfSort t x
+of_sort Num x h = tt
+of_sort Idx x h = h.whole
+of_sort Ptr x h = h
+
+at_name : (ss : List Sort) (v : Values) (n : ℕ) (t : Sort) (x : ℚ) → AreOfSorts ss v → slice_get ss n ≡ Some t → IsOfSort t x → AreOfSorts ss (set v n x)
+at_name [] [] n t x h s w = cc
+at_name [] (y ∷ ys) n t x h s w = absurd h
+at_name (u ∷ ss) [] n t x h s w = absurd h
+at_name (u ∷ ss) (y ∷ ys) zero t x h s w = let e : t ≡ u = cc in (subst (λ k. IsOfSort k x) e w, h.1)
+at_name (u ∷ ss) (y ∷ ys) (suc n) t x h s w = (h.0, at_name ss ys n t x h.1 s w)
+
 set_sorted : (ss : List Sort) (v : Values) (nv : NameValue) → AreOfSorts ss v → IsValueOver ss nv → AreOfSorts ss (set v nv.name.0 nv.value)
-set_sorted ss v nv h (inl w) = at_idx ss v nv.name.0 nv.value h w.0 w.1.whole
-  where
-    at_idx : (ss : List Sort) (v : Values) (n : ℕ) (x : ℚ) → AreOfSorts ss v → slice_get ss n ≡ Some Idx → is_whole x ≡ true → AreOfSorts ss (set v n x)
-    at_idx [] [] n x h s w = cc
-    at_idx [] (y ∷ ys) n x h s w = absurd h
-    at_idx (t ∷ ss) [] n x h s w = absurd h
-    at_idx (t ∷ ss) (y ∷ ys) zero x h s w = let e : Idx ≡ t = cc in (subst (λ u. IsOfSort u x) e w, h.1)
-    at_idx (t ∷ ss) (y ∷ ys) (suc n) x h s w = (h.0, at_idx ss ys n x h.1 s w)
-set_sorted ss v nv h (inr w) = at_num ss v nv.name.0 nv.value h w
-  where
-    at_num : (ss : List Sort) (v : Values) (n : ℕ) (x : ℚ) → AreOfSorts ss v → slice_get ss n ≡ Some Num → AreOfSorts ss (set v n x)
-    at_num [] [] n x h s = cc
-    at_num [] (y ∷ ys) n x h s = absurd h
-    at_num (t ∷ ss) [] n x h s = absurd h
-    at_num (t ∷ ss) (y ∷ ys) zero x h s = let e : Num ≡ t = cc in (subst (λ u. IsOfSort u x) e tt, h.1)
-    at_num (t ∷ ss) (y ∷ ys) (suc n) x h s = (h.0, at_num ss ys n x h.1 s)
+set_sorted ss v nv h w = at_name ss v nv.name.0 w.sort nv.value h w.at (of_sort w.sort nv.value w.value)
 
 pub put_sorted : (ss : List Sort) (v : Values) (nvs : List NameValue) → AreOfSorts ss v → All (IsValueOver ss) nvs → AreOfSorts ss (put_all v nvs)
 put_sorted ss v [] h all = h
@@ -52,11 +49,7 @@ within_sorts (u ∷ ss) (y ∷ ys) zero t h s = omega arith
 within_sorts (u ∷ ss) (y ∷ ys) (suc n) t h s = omega (arith, within_sorts ss ys n t h.1 s)
 
 pub all_within : (ss : List Sort) (v : Values) (nvs : List NameValue) → AreOfSorts ss v → All (IsValueOver ss) nvs → All (λ nv. nv.name.0 < length v) nvs
-all_within ss v nvs h all = All-weaker (IsValueOver ss) (λ nv. nv.name.0 < length v) inside nvs all
-  where
-    inside : (nv : NameValue) → IsValueOver ss nv → nv.name.0 < length v
-    inside nv (inl w) = within_sorts ss v nv.name.0 Idx h w.0
-    inside nv (inr w) = within_sorts ss v nv.name.0 Num h w
+all_within ss v nvs h all = All-weaker (IsValueOver ss) (λ nv. nv.name.0 < length v) (λ nv w. within_sorts ss v nv.name.0 w.sort h w.at) nvs all
 
 -- ---- 0 in all places
 -- 0 in lowest terms
@@ -127,8 +120,10 @@ value_small ss (nv ∷ nvs) n o s =
     ]
   where
     here : (nv : NameValue) → nv.name.0 ≡ n → IsValueOver ss nv → IsSmallWhole nv.value
-    here nv e (inl w) = w.1
-    here nv e (inr w) = absurd (let f : slice_get ss n ≡ Some Num = subst (λ k. slice_get ss k ≡ Some Num) e w in cc)
+    here nv e w =
+        let f : slice_get ss n ≡ Some w.sort = subst (λ k. slice_get ss k ≡ Some w.sort) e w.at in
+        let g : w.sort ≡ Idx = cc in
+        subst (λ t. IsValueOf t nv.value) g w.value
 
 pub values_small : (ss : List Sort) (nvs : List NameValue) (v : Values) → All (IsValueOver ss) nvs → ((n : ℕ) → name_value v n ≡ value_in nvs n) → AreSmallIdx ss v
 values_small ss nvs v o g n s = subst IsSmallWhole (sym (g n)) (value_small ss nvs n o s)

@@ -10,8 +10,8 @@ use Rattle.hp_lit.specs.declared.literal.Lit.TheVariants.{Num, Idx, Ptr}
 use Rattle.hp_lit.specs.Cycle.{IsLit}
 use Rattle.hp_leaf.specs.Renumbered.{Stands, StandsFrom}
 use Rattle.hp_path.specs.declared.parting.Parts.{Parts}
-use Rattle.hp_path.specs.Kinds.{idx_lits, num_lits}
-use Rattle.hp_path.specs.Parted.{AreParts, idx_places, num_places}
+use Rattle.hp_path.specs.Kinds.{idx_lits, num_lits, ptr_lits}
+use Rattle.hp_path.specs.Parted.{AreParts, idx_places, num_places, ptr_places}
 
 -- the parts so far, with those of the literals from number n + 1 on behind them, are those of all literals
 pub record ArePartsTo (lits : List Lit) (n : ℕ) (p : Parts) : Type 0 where
@@ -19,9 +19,11 @@ pub record ArePartsTo (lits : List Lit) (n : ℕ) (p : Parts) : Type 0 where
   pub row_places : p.row_places ++ idx_places (n + 1) (drop n lits) ≡ idx_places 1 lits
   pub nums : p.nums ++ num_lits (drop n lits) ≡ num_lits lits
   pub num_places : p.num_places ++ num_places (n + 1) (drop n lits) ≡ num_places 1 lits
+  pub pairs : p.pairs ++ ptr_lits (drop n lits) ≡ ptr_lits lits
+  pub pair_places : p.pair_places ++ ptr_places (n + 1) (drop n lits) ≡ ptr_places 1 lits
 
-pub none_yet : (lits : List Lit) → ArePartsTo lits 0 (record { rows = []; row_places = []; nums = []; num_places = [] })
-none_yet lits = record { rows = refl; row_places = refl; nums = refl; num_places = refl }
+pub none_yet : (lits : List Lit) → ArePartsTo lits 0 (record { rows = []; row_places = []; nums = []; num_places = []; pairs = []; pair_places = [] })
+none_yet lits = record { rows = refl; row_places = refl; nums = refl; num_places = refl; pairs = refl; pair_places = refl }
 
 pub all_taken : (lits : List Lit) (n : ℕ) (p : Parts) → length lits ≤ n → ArePartsTo lits n p → AreParts lits p
 all_taken lits n p l h =
@@ -31,6 +33,8 @@ all_taken lits n p l h =
       row_places = sym (append-nil p.row_places) ∙ (λ i. p.row_places ++ idx_places (n + 1) (sym e i)) ∙ h.row_places;
       nums = sym (append-nil p.nums) ∙ (λ i. p.nums ++ num_lits (sym e i)) ∙ h.nums;
       num_places = sym (append-nil p.num_places) ∙ (λ i. p.num_places ++ num_places (n + 1) (sym e i)) ∙ h.num_places;
+      pairs = sym (append-nil p.pairs) ∙ (λ i. p.pairs ++ ptr_lits (sym e i)) ∙ h.pairs;
+      pair_places = sym (append-nil p.pair_places) ∙ (λ i. p.pair_places ++ ptr_places (n + 1) (sym e i)) ∙ h.pair_places;
     }
 
 module _ (lits : List Lit) (n : ℕ) (p : Parts) (l : n < length lits) (h : ArePartsTo lits n p) where
@@ -38,7 +42,7 @@ module _ (lits : List Lit) (n : ℕ) (p : Parts) (l : n < length lits) (h : AreP
   rest x e = drop_more lits n x l ∙ (λ i. sym e i ∷ drop (n + 1) lits)
 
   pub num_taken : (x : NumLit) (place : ℕ) → Num x ≡ get_or lits n (Num x) → place ≡ n + 1
-      → ArePartsTo lits (n + 1) (record { rows = p.rows; row_places = p.row_places; nums = p.nums ++ x ∷ []; num_places = p.num_places ++ place ∷ [] })
+      → ArePartsTo lits (n + 1) (record { rows = p.rows; row_places = p.row_places; nums = p.nums ++ x ∷ []; num_places = p.num_places ++ place ∷ []; pairs = p.pairs; pair_places = p.pair_places })
   num_taken x place e f =
       let d = rest (Num x) e in
       let ls = drop (n + 1) lits in
@@ -47,10 +51,12 @@ module _ (lits : List Lit) (n : ℕ) (p : Parts) (l : n < length lits) (h : AreP
         row_places = (λ i. p.row_places ++ idx_places (n + 1) (sym d i)) ∙ h.row_places;
         nums = append_assoc p.nums (x ∷ []) (num_lits ls) ∙ (λ i. p.nums ++ num_lits (sym d i)) ∙ h.nums;
         num_places = append_assoc p.num_places (place ∷ []) (num_places (n + 1 + 1) ls) ∙ (λ i. p.num_places ++ f i ∷ num_places (n + 1 + 1) ls) ∙ (λ i. p.num_places ++ num_places (n + 1) (sym d i)) ∙ h.num_places;
+        pairs = (λ i. p.pairs ++ ptr_lits (sym d i)) ∙ h.pairs;
+        pair_places = (λ i. p.pair_places ++ ptr_places (n + 1) (sym d i)) ∙ h.pair_places;
       }
 
   pub row_taken : (x : IdxLit) (place : ℕ) → Idx x ≡ get_or lits n (Idx x) → place ≡ n + 1
-      → ArePartsTo lits (n + 1) (record { rows = p.rows ++ x ∷ []; row_places = p.row_places ++ place ∷ []; nums = p.nums; num_places = p.num_places })
+      → ArePartsTo lits (n + 1) (record { rows = p.rows ++ x ∷ []; row_places = p.row_places ++ place ∷ []; nums = p.nums; num_places = p.num_places; pairs = p.pairs; pair_places = p.pair_places })
   row_taken x place e f =
       let d = rest (Idx x) e in
       let ls = drop (n + 1) lits in
@@ -59,16 +65,22 @@ module _ (lits : List Lit) (n : ℕ) (p : Parts) (l : n < length lits) (h : AreP
         row_places = append_assoc p.row_places (place ∷ []) (idx_places (n + 1 + 1) ls) ∙ (λ i. p.row_places ++ f i ∷ idx_places (n + 1 + 1) ls) ∙ (λ i. p.row_places ++ idx_places (n + 1) (sym d i)) ∙ h.row_places;
         nums = (λ i. p.nums ++ num_lits (sym d i)) ∙ h.nums;
         num_places = (λ i. p.num_places ++ num_places (n + 1) (sym d i)) ∙ h.num_places;
+        pairs = (λ i. p.pairs ++ ptr_lits (sym d i)) ∙ h.pairs;
+        pair_places = (λ i. p.pair_places ++ ptr_places (n + 1) (sym d i)) ∙ h.pair_places;
       }
 
-  pub pointer_left : (x : PtrLit) → Ptr x ≡ get_or lits n (Ptr x) → ArePartsTo lits (n + 1) p
-  pointer_left x e =
+  pub pair_taken : (x : PtrLit) (place : ℕ) → Ptr x ≡ get_or lits n (Ptr x) → place ≡ n + 1
+      → ArePartsTo lits (n + 1) (record { rows = p.rows; row_places = p.row_places; nums = p.nums; num_places = p.num_places; pairs = p.pairs ++ x ∷ []; pair_places = p.pair_places ++ place ∷ [] })
+  pair_taken x place e f =
       let d = rest (Ptr x) e in
+      let ls = drop (n + 1) lits in
       record {
         rows = (λ i. p.rows ++ idx_lits (sym d i)) ∙ h.rows;
         row_places = (λ i. p.row_places ++ idx_places (n + 1) (sym d i)) ∙ h.row_places;
         nums = (λ i. p.nums ++ num_lits (sym d i)) ∙ h.nums;
         num_places = (λ i. p.num_places ++ num_places (n + 1) (sym d i)) ∙ h.num_places;
+        pairs = append_assoc p.pairs (x ∷ []) (ptr_lits ls) ∙ (λ i. p.pairs ++ ptr_lits (sym d i)) ∙ h.pairs;
+        pair_places = append_assoc p.pair_places (place ∷ []) (ptr_places (n + 1 + 1) ls) ∙ (λ i. p.pair_places ++ f i ∷ ptr_places (n + 1 + 1) ls) ∙ (λ i. p.pair_places ++ ptr_places (n + 1) (sym d i)) ∙ h.pair_places;
       }
 
 -- ---- where they stand
@@ -97,8 +109,19 @@ rows_from path k n m (Idx r ∷ ls) e b d =
     (b, is_lit path k n (Idx r) e g.0, rows_from path (suc k) (n + 1) (n + 1) ls (omega arith) (omega arith) g.1)
 rows_from path k n m (Ptr l ∷ ls) e b d = rows_from path (suc k) (n + 1) m ls (omega arith) (omega arith) (at_drop path k (Ptr l) ls d).1
 
+pairs_from : (path : List Lit) (k n m : ℕ) (ls : List Lit) → n ≡ suc k → m ≤ n → drop k path ≡ ls → StandsFrom m path (map Ptr (ptr_lits ls)) (ptr_places n ls)
+pairs_from path k n m [] e b d = tt
+pairs_from path k n m (Num l ∷ ls) e b d = pairs_from path (suc k) (n + 1) m ls (omega arith) (omega arith) (at_drop path k (Num l) ls d).1
+pairs_from path k n m (Idx r ∷ ls) e b d = pairs_from path (suc k) (n + 1) m ls (omega arith) (omega arith) (at_drop path k (Idx r) ls d).1
+pairs_from path k n m (Ptr l ∷ ls) e b d =
+    let g = at_drop path k (Ptr l) ls d in
+    (b, is_lit path k n (Ptr l) e g.0, pairs_from path (suc k) (n + 1) (n + 1) ls (omega arith) (omega arith) g.1)
+
 pub nums_stand : (path : List Lit) → Stands path (map Num (num_lits path)) (num_places 1 path)
 nums_stand path = nums_from path 0 1 0 path refl (omega arith) refl
 
 pub rows_stand : (path : List Lit) → Stands path (map Idx (idx_lits path)) (idx_places 1 path)
 rows_stand path = rows_from path 0 1 0 path refl (omega arith) refl
+
+pub pairs_stand : (path : List Lit) → Stands path (map Ptr (ptr_lits path)) (ptr_places 1 path)
+pairs_stand path = pairs_from path 0 1 0 path refl (omega arith) refl

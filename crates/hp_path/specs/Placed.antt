@@ -1,16 +1,26 @@
 -- Values of some names, put in their places among the values of all names.
-use Rattle.std.specs.Prelude.{◌≡◌, ◌≢◌, ◌⊎◌, List, [], ◌∷◌, Some, slice_get, slice_set}
+use Rattle.std.specs.Prelude.{◌≡◌, ◌≢◌, List, [], ◌∷◌, Some, slice_get, slice_set}
 use Rattle.std.specs.List.{All}
 use Rattle.hp_tree.specs.declared.problem.Sort.{Sort}
 use Rattle.hp_tree.specs.declared.problem.Sort.TheVariants as sort
 use Rattle.hp_lit.specs.declared.literal.NumLit.{NumLit}
 use Rattle.hp_lit.specs.declared.valuation.NameValue.{NameValue}
+use Rattle.hp_math.specs.Rational.{ℚ}
+use Rattle.hp_lit.specs.Sorts.{IsOfSort}
 use Rattle.hp_lit.specs.Truth.{Values, name_value, NumIsTrue}
 use Rattle.hp_diff.specs.Rows.{IsSmallWhole}
 
--- a whole number of a magnitude of at most 10^37 for a name of sort idx, or any number for one of sort num
-abbrev pub IsValueOver : List Sort → NameValue → Type 0
-IsValueOver sorts nv = ((slice_get sorts nv.name.0 ≡ Some sort.Idx) × IsSmallWhole nv.value) ⊎ (slice_get sorts nv.name.0 ≡ Some sort.Num)
+-- any number, a whole number of a magnitude of at most 10^37, a whole number from 0
+abbrev pub IsValueOf : Sort → ℚ → Type 0
+IsValueOf sort.Num x = Unit {0}
+IsValueOf sort.Idx x = IsSmallWhole x
+IsValueOf sort.Ptr x = IsOfSort sort.Ptr x
+
+-- a name with such a value for its sort
+pub record IsValueOver (sorts : List Sort) (nv : NameValue) : Type 0 where
+  pub sort : Sort
+  pub at : slice_get sorts nv.name.0 ≡ Some sort
+  pub value : IsValueOf sort nv.value
 
 -- no name has two values
 abbrev pub AreApart : List NameValue → Type 0

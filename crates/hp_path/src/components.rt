@@ -4,28 +4,29 @@
 //! Each component goes to the simplex. A component for which that gives up is named, so that it hides no contradiction of
 //! another one, or goes to the descent first, whose time may double with each literal: over literals that share no name
 //! it would take the product of the times of the components, and here it takes their sum.
-ghost use Rattle.std.specs.Prelude.{◌≡◌, ◌≤◌, ◌+◌, IfOk, length, map, false, replicate};
+ghost use Rattle.std.specs.Prelude.{◌≡◌, ◌≤◌, ◌<◌, ◌+◌, IfOk, length, map, false, replicate};
 ghost use Rattle.std.specs.List.{All, filter};
 ghost use Rattle.hp_tree.specs.Limits.{most_rows};
-ghost use Rattle.hp_defs.specs.Names.{sorts};
 ghost use Rattle.hp_lit.specs.declared.literal.Lit.TheVariants.{Num};
 ghost use Rattle.hp_descent.specs.Columns.{AreNumFit};
 ghost use Rattle.hp_leaf.specs.Renumbered.{Stands};
-ghost use Rattle.hp_lit.specs.Fit.{IsBuilt, IsNumOver};
+ghost use Rattle.hp_lit.specs.Fit.{IsFit, IsNumOver};
 ghost use Rattle.hp_path.specs.Kinds.{num_lits};
-ghost use Rattle.hp_path.specs.Components.{AreLabels, has_label, places_with};
+ghost use Rattle.hp_path.specs.Components.{has_label, places_with};
 ghost use Rattle.hp_path.specs.Parted.{AreParts, num_places};
+ghost use Rattle.hp_path.specs.inner.Chains.{AreLabelled};
 ghost use Rattle.hp_path.specs.inner.Sides.{AreOfLabel, DecidesNums, DecidesPart, Tells};
 
-use crate::labels::{first_label, labels_of};
+use crate::chains::{Labelled, with_labels};
+use crate::labels::first_label;
 use crate::parting::Parts;
 use crate::placing::push_values;
-use hp_defs::Names;
 use hp_descent::{DescentErr, NumAnswer};
 use hp_leaf::renumber_shares;
 use hp_lit::{Lit, NameValue, NumLit, Share};
 use hp_num::List;
 use hp_simplex::{Attempt, attempt, decide};
+use hp_tree::Sort;
 use std::alloc::{AllocError, Global};
 
 /// Whether a component for which the simplex gives up goes to the descent.
@@ -64,23 +65,23 @@ pub struct Component {
 /// The literals of a label.
 pub fn component_of(
     alloc: Global,
-    labels: &List<u32>,
-    label: u32,
+    labelled: &Labelled,
+    label: usize,
     parts: &Parts,
 ) -> Result<Component, AllocError>
-    requires labels { AreLabels labels.now parts.now.nums }
+    requires labelled { AreLabelled parts.now.nums labelled.now }
+    requires label { label < length labelled.now.labels + 1 }
     requires places { length parts.now.num_places ≡ length parts.now.nums }
-    ensures nums { IfOk result (λ c. c.nums ≡ filter (has_label labels.now label) parts.now.nums) }
-    ensures places { IfOk result (λ c. c.places ≡ places_with labels.now label parts.now.nums parts.now.num_places) }
+    ensures nums { IfOk result (λ c. c.nums ≡ filter (has_label labelled.now.labels label) parts.now.nums) }
+    ensures places { IfOk result (λ c. c.places ≡ places_with labelled.now.labels label parts.now.nums parts.now.num_places) }
 {
     let mut nums = List::new(alloc);
     let mut places = List::new(alloc);
-    for at in 0..parts.nums.len() {
-        let lit = parts.nums.get(at);
-        if first_label(labels, lit.parts.as_slice()) == label {
-            nums.push(lit.copy(alloc)?)?;
-            places.push(*parts.num_places.get(at))?;
-        }
+    let mut at = *labelled.chains.firsts.get(label);
+    'chain: while at < parts.nums.len() {
+        nums.push(parts.nums.get(at).copy(alloc)?)?;
+        places.push(*parts.num_places.get(at))?;
+        at = *labelled.chains.nexts.get(at);
     }
     Ok(Component { nums, places })
 }
@@ -116,21 +117,22 @@ fn answer_at(alloc: Global, pace: Pace, nums: &[NumLit]) -> Result<Attempt, Allo
 /// As `decide_nums`, for the literals of a label.
 fn decide_component(
     alloc: Global,
-    names: &Names,
+    sorts: &[Sort],
     lits: &[Lit],
     parts: &Parts,
-    labels: &List<u32>,
-    label: u32,
+    labelled: &Labelled,
+    label: usize,
     pace: Pace,
 ) -> Result<Side, AllocError>
-    requires over { All (IsNumOver (sorts names.now)) parts.now.nums }
+    requires over { All (IsNumOver sorts.now) parts.now.nums }
     requires few { length parts.now.nums ≤ most_rows }
     requires stand { Stands lits.now (map Num parts.now.nums) parts.now.num_places }
-    requires labels { AreLabels labels.now parts.now.nums }
-    ensures decided { IfOk result (DecidesPart (sorts names.now) pace lits.now parts.now labels.now label) }
-    ensures names { IfOk result (AreOfLabel labels.now label) }
+    requires labelled { AreLabelled parts.now.nums labelled.now }
+    requires label { label < length labelled.now.labels + 1 }
+    ensures decided { IfOk result (DecidesPart sorts.now pace lits.now parts.now labelled.now.labels label) }
+    ensures names { IfOk result (AreOfLabel labelled.now.labels label) }
 {
-    let component = component_of(alloc, labels, label, parts)?;
+    let component = component_of(alloc, labelled, label, parts)?;
     match answer_at(alloc, pace, component.nums.as_slice())? {
         Attempt::Point(values) => Ok(Side::Point(values)),
         Attempt::Farkas(shares) => {
@@ -141,29 +143,29 @@ fn decide_component(
     }
 }
 
-/// As `decide_nums`, with a label for each name.
+/// As `decide_nums`, with a label for each name, and the literals of each label.
 fn decide_apart(
     alloc: Global,
-    names: &Names,
+    sorts: &[Sort],
     lits: &[Lit],
     parts: &Parts,
-    labels: &List<u32>,
+    labelled: &Labelled,
     pace: Pace,
 ) -> Result<Apart, AllocError>
-    requires over { All (IsNumOver (sorts names.now)) parts.now.nums }
+    requires over { All (IsNumOver sorts.now) parts.now.nums }
     requires few { length parts.now.nums ≤ most_rows }
     requires stand { Stands lits.now (map Num parts.now.nums) parts.now.num_places }
-    requires labels { AreLabels labels.now parts.now.nums }
-    ensures { IfOk result (DecidesNums (sorts names.now) pace lits.now parts.now.nums parts.now.num_places) }
+    requires labelled { AreLabelled parts.now.nums labelled.now }
+    ensures { IfOk result (DecidesNums sorts.now pace lits.now parts.now.nums parts.now.num_places) }
 {
-    let mut done = none_done(alloc, labels.len())?;
+    let mut done = none_done(alloc, labelled.labels.len())?;
     let mut values = List::new(alloc);
     let mut unknown = List::new(alloc);
     for lit in parts.nums.as_slice() {
-        let label = first_label(labels, lit.parts.as_slice());
-        if !*done.get(label as usize) {
-            done.set(label as usize, true);
-            match decide_component(alloc, names, lits, parts, labels, label, pace)? {
+        let label = first_label(&labelled.labels, lit.parts.as_slice());
+        if !*done.get(label) {
+            done.set(label, true);
+            match decide_component(alloc, sorts, lits, parts, labelled, label, pace)? {
                 Side::Point(more) => push_values(&mut values, more.as_slice())?,
                 Side::Unknown(places) => unknown.push(places)?,
                 Side::Farkas(shares) => return Ok(Apart::Farkas(shares)),
@@ -181,16 +183,16 @@ fn decide_apart(
 /// the path. Components without an answer are named where no component has a combination.
 pub fn decide_nums(
     alloc: Global,
-    names: &Names,
+    sorts: &[Sort],
     lits: &[Lit],
     parts: &Parts,
     pace: Pace,
 ) -> Result<Apart, AllocError>
-    requires built { All (IsBuilt (sorts names.now)) lits.now }
+    requires fit { All (IsFit sorts.now) lits.now }
     requires few { length lits.now ≤ most_rows }
     requires parts { AreParts lits.now parts.now }
-    ensures { IfOk result (DecidesNums (sorts names.now) pace lits.now (num_lits lits.now) (num_places 1 lits.now)) }
+    ensures { IfOk result (DecidesNums sorts.now pace lits.now (num_lits lits.now) (num_places 1 lits.now)) }
 {
-    let labels = labels_of(alloc, names, parts.nums.as_slice())?;
-    decide_apart(alloc, names, lits, parts, &labels, pace)
+    let labelled = with_labels(alloc, sorts, parts.nums.as_slice())?;
+    decide_apart(alloc, sorts, lits, parts, &labelled, pace)
 }

@@ -3,16 +3,18 @@
 #![tactic(auto)]
 
 mod belonging;
-mod built;
+mod chains;
 mod components;
 mod deciding;
+mod fit;
 mod labels;
+mod pairs;
 mod parting;
 mod placing;
 mod quick;
 mod rows;
 
 pub use belonging::component_of_last;
-pub use built::are_built;
 pub use deciding::{Decision, decide};
+pub use fit::are_fit;
 pub use quick::{Quick, decide_patiently, decide_quickly};

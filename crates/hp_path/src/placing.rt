@@ -3,23 +3,23 @@ ghost use Rattle.std.specs.Prelude.{◌≡◌, ◌<◌, ◌++◌, ℕ, IfOk, OnO
 ghost use Rattle.std.specs.List.{All};
 ghost use Rattle.hp_math.specs.Rational.{whole};
 ghost use Rattle.hp_tree.specs.declared.problem.Sort.TheVariants.{Num};
-ghost use Rattle.hp_defs.specs.Names.{sorts};
 ghost use Rattle.hp_lit.specs.Truth.{name_value};
 ghost use Rattle.hp_lit.specs.Sorts.{AreOfSorts};
 ghost use Rattle.hp_descent.specs.Values.{value_in};
 ghost use Rattle.hp_diff.specs.Rows.{IsPoint};
-ghost use Rattle.hp_lit.specs.Fit.{IsBuilt};
-ghost use Rattle.hp_path.specs.Kinds.{idx_lits, num_lits};
+ghost use Rattle.hp_ptreq.specs.Rows.{ArePointers};
+ghost use Rattle.hp_lit.specs.Fit.{IsFit};
+ghost use Rattle.hp_path.specs.Kinds.{idx_lits, num_lits, ptr_lits};
 ghost use Rattle.hp_path.specs.Decided.{AreSmallIdx, AreValuesFor};
 ghost use Rattle.hp_path.specs.Placed.{AreApart, AreSolving, IsValueOver, put_all};
 
-use hp_defs::Names;
 use hp_lit::{Lit, NameValue, Valuation};
 use hp_num::{Frac, List};
+use hp_tree::Sort;
 use std::alloc::{AllocError, Global};
 
 /// The value 0 for each of `count` names.
-fn zeros(alloc: Global, count: u64) -> Result<List<Frac>, AllocError>
+fn zeros(alloc: Global, count: usize) -> Result<List<Frac>, AllocError>
     ensures { IfOk result (λ values. values ≡ replicate count (whole (pos 0))) }
 {
     let mut values = List::new(alloc);
@@ -40,14 +40,14 @@ fn put(values: &mut List<Frac>, point: &[NameValue])
 }
 
 /// Values for all names: those of the list, and 0 for names that it doesn't have.
-fn values_of(alloc: Global, names: &Names, point: &[NameValue]) -> Result<Valuation, AllocError>
+fn values_of(alloc: Global, sorts: &[Sort], point: &[NameValue]) -> Result<Valuation, AllocError>
     requires apart { AreApart point.now }
-    requires over { All (IsValueOver (sorts names.now)) point.now }
-    ensures sorted { IfOk result (λ v. AreOfSorts (sorts names.now) v.values) }
-    ensures small { IfOk result (λ v. AreSmallIdx (sorts names.now) v.values) }
+    requires over { All (IsValueOver sorts.now) point.now }
+    ensures sorted { IfOk result (λ v. AreOfSorts sorts.now v.values) }
+    ensures small { IfOk result (λ v. AreSmallIdx sorts.now v.values) }
     ensures given { IfOk result (λ v. (n : ℕ) → name_value v.values n ≡ value_in point.now n) }
 {
-    let mut values = zeros(alloc, names.count())?;
+    let mut values = zeros(alloc, sorts.len())?;
     put(&mut values, point);
     Ok(Valuation { values })
 }
@@ -62,22 +62,25 @@ pub fn push_values(values: &mut List<NameValue>, more: &[NameValue]) -> Result<(
     Ok(())
 }
 
-/// Values for all names that make all literals true, from those of the point of the literals over whole numbers and from
-/// those that make the literals over fractions true.
+/// Values for all names that make all literals true, from those that make the literals over pointers true, those of the
+/// point of the literals over whole numbers, and those that make the literals over fractions true.
 pub fn values_for(
     alloc: Global,
-    names: &Names,
+    sorts: &[Sort],
     lits: &[Lit],
-    mut point: List<NameValue>,
+    mut pointers: List<NameValue>,
+    point: &[NameValue],
     values: &[NameValue],
 ) -> Result<Valuation, AllocError>
-    requires built { All (IsBuilt (sorts names.now)) lits.now }
-    requires point { IsPoint (idx_lits lits.now) point }
-    requires values { AreSolving (sorts names.now) (num_lits lits.now) values.now }
-    ensures values { IfOk result (λ v. AreValuesFor (sorts names.now) lits.now v.values) }
-    ensures agree { IfOk result (λ v. (n : ℕ) → slice_get (sorts names.now) n ≡ Some Num → name_value v.values n ≡ value_in values.now n) }
+    requires fit { All (IsFit sorts.now) lits.now }
+    requires pointers { ArePointers (ptr_lits lits.now) pointers }
+    requires point { IsPoint (idx_lits lits.now) point.now }
+    requires values { AreSolving sorts.now (num_lits lits.now) values.now }
+    ensures values { IfOk result (λ v. AreValuesFor sorts.now lits.now v.values) }
+    ensures agree { IfOk result (λ v. (n : ℕ) → slice_get sorts.now n ≡ Some Num → name_value v.values n ≡ value_in values.now n) }
 {
-    push_values(&mut point, values)?;
-    let all = values_of(alloc, names, point.as_slice())?;
+    push_values(&mut pointers, point)?;
+    push_values(&mut pointers, values)?;
+    let all = values_of(alloc, sorts, pointers.as_slice())?;
     Ok(all)
 }

@@ -2,27 +2,26 @@
 ghost use Rattle.std.specs.Prelude.{◌≤◌, IfOk, length};
 ghost use Rattle.std.specs.List.{All};
 ghost use Rattle.hp_tree.specs.Limits.{most_rows};
-ghost use Rattle.hp_defs.specs.Names.{sorts};
-ghost use Rattle.hp_lit.specs.Fit.{IsBuilt};
+ghost use Rattle.hp_lit.specs.Fit.{IsFit};
 ghost use Rattle.hp_path.specs.Parted.{AreParts};
 ghost use Rattle.hp_path.specs.inner.Sides.{DecidesRows};
 
 use crate::parting::Parts;
-use hp_defs::Names;
 use hp_diff::{DiffAnswer, decide};
 use hp_leaf::renumber_steps;
 use hp_lit::Lit;
+use hp_tree::Sort;
 use std::alloc::{AllocError, Global};
 
 /// Values that make the literals over whole numbers true, or a cycle of them in the numbers that literals have along the
 /// path.
 pub fn decide_rows(
     alloc: Global,
-    names: &Names,
+    sorts: &[Sort],
     lits: &[Lit],
     parts: &Parts,
 ) -> Result<DiffAnswer, AllocError>
-    requires built { All (IsBuilt (sorts names.now)) lits.now }
+    requires fit { All (IsFit sorts.now) lits.now }
     requires few { length lits.now ≤ most_rows }
     requires parts { AreParts lits.now parts.now }
     ensures { IfOk result (λ answer. DecidesRows lits.now answer) }

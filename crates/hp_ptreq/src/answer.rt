@@ -11,10 +11,9 @@ ghost use Rattle.hp_ptreq.specs.inner.Classes.{AreLabels};
 ghost use Rattle.hp_ptreq.specs.inner.Nodes.{label_value};
 
 use crate::classes::{Classes, classes_of, labels_of};
-use crate::names::distinct_names;
 use crate::ways::way_between;
 use hp_lit::{Name, NameValue, PtrLit};
-use hp_nodes::node_of;
+use hp_nodes::{distinct_names, node_of};
 use hp_num::{Frac, List};
 use std::alloc::{AllocError, Global};
 

@@ -6,7 +6,6 @@
 
 mod answer;
 mod classes;
-mod names;
 mod ways;
 
 pub use answer::{PtrAnswer, decide};

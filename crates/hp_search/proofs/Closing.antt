@@ -1,5 +1,5 @@
 -- Leaves over literals of which the first are those of a path, and the tree that closes lines of one literal.
-use Rattle.std.proofs.Common.{◌≡◌, ℕ, zero, suc, ◌+◌, ◌-◌, ◌<◌, ◌≤◌, refl, sym, ◌∙◌, ap, subst, arith, List, [], ◌∷◌, ◌++◌, length, map, take, get_or, Some, append_assoc, length-append}
+use Rattle.std.proofs.Common.{◌≡◌, ℕ, zero, suc, ◌+◌, ◌-◌, ◌<◌, ◌≤◌, refl, sym, ◌∙◌, ap, subst, arith, List, [], ◌∷◌, ◌++◌, length, map, take, get_or, Option, Some, append_assoc, length-append}
 use Rattle.std.specs.Prelude.{slice_get, slice_index_or}
 use Rattle.std.specs.List.{All}
 use Rattle.std.proofs.lemmas.Option.{slice_get-get_or, slice_get_within, get_or_from_slice_get}
@@ -7,7 +7,8 @@ use Rattle.std.proofs.lemmas.List.{length-take-le, map-append, take_more}
 use Rattle.std.proofs.lemmas.List.Elements.{All-cons, All-get_or, All-head, All-nil, All-push, All-tail}
 use Rattle.hp_tree.specs.declared.problem.Sort.{Sort}
 use Rattle.hp_lit.specs.declared.literal.Lit.{Lit}
-use Rattle.hp_lit.specs.declared.literal.Lit.TheVariants.{Num, Idx}
+use Rattle.hp_lit.specs.declared.literal.Lit.TheVariants.{Num, Idx, Ptr}
+use Rattle.hp_lit.specs.declared.literal.Name.{Name}
 use Rattle.hp_lit.specs.declared.literal.IdxLit.{IdxLit}
 use Rattle.hp_lit.specs.declared.line.Line.{Line}
 use Rattle.hp_lit.specs.declared.proof.Choice.{Choice}
@@ -15,6 +16,7 @@ use Rattle.hp_lit.specs.declared.proof.Share.{Share}
 use Rattle.hp_lit.specs.declared.proof.Step.{Step}
 use Rattle.hp_lit.specs.Cycle.{AreRowsOf, IsLit, IsValidIdx}
 use Rattle.hp_lit.specs.Leaf.{AreTaken, IsRising, IsValidNum, Taken}
+use Rattle.hp_lit.specs.Pointers.{IsValidPtr, Joins, JoinsAll}
 use Rattle.hp_lit.specs.Truth.{Values, IsTrueAt}
 use Rattle.hp_leaf.specs.declared.tree.LeafProof.{LeafProof}
 use Rattle.hp_leaf.specs.declared.tree.LeafProof.TheVariants.{Num as NumLeaf, Idx as IdxLeaf, Ptr as PtrLeaf}
@@ -24,7 +26,7 @@ use Rattle.hp_leaf.specs.Leaf.{IsValid}
 use Rattle.hp_leaf.specs.Tree.{lits_at, lit_at, lits_of, nothing, IsLine, place_lits, IsClosed}
 use Rattle.hp_leaf.proofs.Singles.{AreSingles, first_of, singles_closed}
 use Rattle.hp_path.specs.Decided.{AreValuesFor}
-use Rattle.hp_search.specs.inner.Singles.{IsLeafWithin, IsSingleOf, line_at, line_in, lines_of_shares, lines_of_steps, shares_in_order, splits_of, steps_in_order}
+use Rattle.hp_search.specs.inner.Singles.{IsLeafWithin, IsSingleOf, line_at, line_in, lines_of_links, lines_of_shares, lines_of_steps, links_in_order, shares_in_order, splits_of, steps_in_order}
 
 -- ---- lists
 first_all : {A : Type 0} (P : A → Type 0) (xs ys : List A) → All P (xs ++ ys) → All P xs
@@ -67,10 +69,20 @@ taken_first xs ys (s ∷ ss) (t ∷ ts) w h =
       taken_first xs ys ss ts (All-tail within s ss w) h.1,
     )
 
+join_first : (xs ys : List Lit) (n : ℕ) (a b : Option Name) → n ≤ length xs → Joins (xs ++ ys) n a b → Joins xs n a b
+join_first xs ys n a b w h = record { lit = h.lit; at = lit_first xs ys n (Ptr h.lit) w h.at; same = h.same; ends = h.ends }
+
+joins_first : (xs ys : List Lit) (a b : Option Name) (ns : List ℕ) → All (λ n. n ≤ length xs) ns → JoinsAll (xs ++ ys) a ns b → JoinsAll xs a ns b
+joins_first xs ys a b [] w h = h
+joins_first xs ys a b (n ∷ ns) w h =
+    let within = λ (n : ℕ). n ≤ length xs in
+    (h.0, join_first xs ys n a h.0 (All-head within n ns w) h.1, joins_first xs ys h.0 b ns (All-tail within n ns w) h.2)
+
 leaf_first : (xs ys : List Lit) (proof : LeafProof) → IsLeafWithin (length xs) proof → IsValid (xs ++ ys) proof → IsValid xs proof
 leaf_first xs ys (NumLeaf shares) w h = record { taken = h.taken; are_taken = taken_first xs ys shares h.taken w h.are_taken; rising = h.rising; nothing = h.nothing; bound = h.bound }
 leaf_first xs ys (IdxLeaf steps) w h = record { rows = h.rows; are_rows = rows_first xs ys steps h.rows w h.are_rows; start = h.start; cycle = h.cycle; below = h.below }
-leaf_first xs ys (PtrLeaf ne links) w h = absurd w
+leaf_first xs ys (PtrLeaf ne links) w h =
+    record { lit = h.lit; at = lit_first xs ys ne (Ptr h.lit) w.0 h.at; apart = h.apart; joined = joins_first xs ys h.lit.left h.lit.right links w.1 h.joined }
 
 pub first_leaf : (xs ys : List Lit) (proof : LeafProof) (n : ℕ) → n ≡ length xs → IsLeafWithin n proof → IsValid (xs ++ ys) proof → IsValid xs proof
 first_leaf xs ys proof n e w h = leaf_first xs ys proof (subst (λ k. IsLeafWithin k proof) e w) h
@@ -168,6 +180,23 @@ module _ (lines : List Line) (singles : List Choice) (all : All (IsSingleOf line
             (subst (λ k. AreTaken ((done ++ l ∷ []) ++ rest) (shares_in_order k ss) ts) (one_more done l) (taken_in_order (done ++ l ∷ []) ss ts h.1)),
       )
 
+  link_singles : (a b : Option Name) (ns : List ℕ) → JoinsAll (place_lits lines singles) a ns b → AreSingles lines (lines_of_links singles ns)
+  link_singles a b [] h = tt
+  link_singles a b (n ∷ ns) h = let f = line_found n (Ptr h.1.lit) h.1.at in (f.within, f.only, link_singles h.0 b ns h.2)
+
+  joins_in_order : (done : List Lit) (a b : Option Name) (ns : List ℕ) → JoinsAll (place_lits lines singles) a ns b
+      → JoinsAll (done ++ place_lits lines (map first_of (lines_of_links singles ns))) a (links_in_order (length done) ns) b
+  joins_in_order done a b [] h = h
+  joins_in_order done a b (n ∷ ns) h =
+      let m = line_at singles n in
+      let l = lit_at lines (first_of m) in
+      let rest = place_lits lines (map first_of (lines_of_links singles ns)) in (
+        h.0,
+        record { lit = h.1.lit; at = placed lines done rest m (Ptr h.1.lit) (line_found n (Ptr h.1.lit) h.1.at).is; same = h.1.same; ends = h.1.ends },
+        subst (λ p. JoinsAll p h.0 (links_in_order (suc (length done)) ns) b) (append_assoc done (l ∷ []) rest)
+            (subst (λ k. JoinsAll ((done ++ l ∷ []) ++ rest) h.0 (links_in_order k ns) b) (one_more done l) (joins_in_order (done ++ l ∷ []) h.0 b ns h.2)),
+      )
+
   pub steps_close : (steps : List Step) → IsValidIdx (place_lits lines singles) steps → IsClosed lines (splits_of (lines_of_steps singles steps) ++ Leaf (IdxLeaf (steps_in_order 0 steps)) ∷ [])
   steps_close steps h =
       singles_closed lines (lines_of_steps singles steps) (IdxLeaf (steps_in_order 0 steps)) (step_singles steps h.rows h.are_rows)
@@ -178,7 +207,16 @@ module _ (lines : List Line) (singles : List Choice) (all : All (IsSingleOf line
       singles_closed lines (lines_of_shares singles shares) (NumLeaf (shares_in_order 0 shares)) (share_singles shares h.taken h.are_taken)
       (record { taken = h.taken; are_taken = taken_in_order [] shares h.taken h.are_taken; rising = rising_in_order 0 shares; nothing = h.nothing; bound = h.bound })
 
--- ---- one node and one step or share more
+  pub links_close : (ne : ℕ) (links : List ℕ) → IsValidPtr (place_lits lines singles) ne links → IsClosed lines (splits_of (line_at singles ne ∷ lines_of_links singles links) ++ Leaf (PtrLeaf 1 (links_in_order 1 links)) ∷ [])
+  links_close ne links h =
+      let n = line_at singles ne in
+      let l = lit_at lines (first_of n) in
+      let f = line_found ne (Ptr h.lit) h.at in
+      let rest = place_lits lines (map first_of (lines_of_links singles links)) in
+      singles_closed lines (n ∷ lines_of_links singles links) (PtrLeaf 1 (links_in_order 1 links)) (f.within, f.only, link_singles h.lit.left h.lit.right links h.joined)
+      (record { lit = h.lit; at = placed lines [] rest n (Ptr h.lit) f.is; apart = h.apart; joined = joins_in_order (l ∷ []) h.lit.left h.lit.right links h.joined })
+
+-- ---- one node and one step, share or equality more
 pub more_splits : {A : Type 0} (f : A → ℕ) (xs : List A) (tree more : List Node) (i : ℕ) (d : A) (n : ℕ) → i < length xs → n ≡ f (get_or xs i d) → more ≡ tree ++ Split n ∷ []
     → tree ≡ map Split (map f (take i xs)) → more ≡ map Split (map f (take (i + 1) xs))
 more_splits f xs tree more i d n b e m h =
@@ -212,3 +250,22 @@ more_shares shares old more i d t b e m h =
     let n : length (take i shares) ≡ i = length-take-le i shares (omega (arith, b)) in
     let k : i + 1 ≡ suc (0 + length (take i shares)) = omega (arith, n) in
     m ∙ (λ j. h j ++ (e ∙ ap (λ k. record { lit = k; times = s.times }) k) j ∷ []) ∙ sym (shares-push 0 (take i shares) s) ∙ ap (shares_in_order 0) (sym (take_more shares i d b))
+
+-- the same behind a first split
+pub splits_after : {A : Type 0} (f : A → ℕ) (first : ℕ) (xs : List A) (tree more : List Node) (i : ℕ) (d : A) (n : ℕ) → i < length xs → n ≡ f (get_or xs i d) → more ≡ tree ++ Split n ∷ []
+    → tree ≡ map Split (first ∷ map f (take i xs)) → more ≡ map Split (first ∷ map f (take (i + 1) xs))
+splits_after f first xs tree more i d n b e m h =
+    m ∙ (λ j. h j ++ Split (e j) ∷ [])
+    ∙ ap (λ q. Split first ∷ q) (more_splits f xs (map Split (map f (take i xs))) (map Split (map f (take i xs)) ++ Split (f (get_or xs i d)) ∷ []) i d (f (get_or xs i d)) b refl refl refl)
+
+links-push : (n : ℕ) (ls : List ℕ) (x : ℕ) → links_in_order n (ls ++ x ∷ []) ≡ links_in_order n ls ++ suc (n + length ls) ∷ []
+links-push n [] x = let e : suc n ≡ suc (n + 0) = omega arith in ap (λ k. k ∷ []) e
+links-push n (l ∷ ls) x =
+    let e : suc (suc n + length ls) ≡ suc (n + suc (length ls)) = omega arith in
+    ap (λ q. suc n ∷ q) (links-push (suc n) ls x ∙ ap (λ k. links_in_order (suc n) ls ++ k ∷ []) e)
+
+pub more_links : (links old more : List ℕ) (i t : ℕ) → i < length links → t ≡ i + 2 → more ≡ old ++ t ∷ [] → old ≡ links_in_order 1 (take i links) → more ≡ links_in_order 1 (take (i + 1) links)
+more_links links old more i t b e m h =
+    let n : length (take i links) ≡ i = length-take-le i links (omega (arith, b)) in
+    let k : i + 2 ≡ suc (1 + length (take i links)) = omega (arith, n) in
+    m ∙ (λ j. h j ++ (e ∙ k) j ∷ []) ∙ sym (links-push 1 (take i links) (get_or links i 0)) ∙ ap (links_in_order 1) (sym (take_more links i 0 b))

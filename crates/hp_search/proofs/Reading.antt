@@ -1,4 +1,4 @@
--- Literals that are built: those of a place are, and values whose index names are small tell their truth.
+-- Literals that can be decided: those of a place can, and values whose index names are small tell their truth.
 use Rattle.std.proofs.Common.{◌≡◌, ℕ, zero, suc, ◌-◌, ◌+◌, ◌≤◌, ◌<◌, ◌^◌, ◌+ℤ◌, ◌≤ℤ◌, pos, nat_eq, refl, sym, ◌∙◌, ap, subst, arith, List, [], ◌∷◌, ◌++◌, length, take, get_or, Option, Some, None, length-append, append_assoc}
 use Rattle.std.specs.Prelude.{slice_get}
 use Rattle.std.specs.List.{All}
@@ -17,37 +17,37 @@ use Rattle.hp_lit.specs.declared.proof.Choice.{Choice}
 use Rattle.hp_lit.specs.Truth.{Values, optional_value}
 use Rattle.hp_diff.specs.Rows.{IsSmallWhole}
 use Rattle.hp_leaf.specs.Tree.{lits_of, lits_at, lit_at, nothing, Place, place_lits}
-use Rattle.hp_lit.specs.Fit.{IsBuilt, IsIdxSide}
+use Rattle.hp_lit.specs.Fit.{IsFit, IsIdxSide}
 use Rattle.hp_path.specs.Decided.{AreSmallIdx}
-use Rattle.hp_search.specs.Lines.{AreBuilt, AreReadable, IsReadable}
+use Rattle.hp_search.specs.Lines.{AreFit, AreReadable, IsReadable}
 
--- ---- the literals of a place are built
+-- ---- the literals of a place can be decided
 or_default : {A : Type 0} (P : A → Type 0) (xs : List A) (k : ℕ) (d : A) → P d → All P xs → P (get_or xs k d)
 or_default P [] k d h all = h
 or_default P (x ∷ xs) zero d h all = All-head P x xs all
 or_default P (x ∷ xs) (suc k) d h all = or_default P xs k d h (All-tail P x xs all)
 
-module _ (ss : List Sort) (lines : List Line) (built : All (λ line. AreBuilt ss line.lits) lines) where
-  pub lits_built : (n : ℕ) → AreBuilt ss (lits_at lines n)
-  lits_built n = (elim (slice_get lines (n - 1)) as (λ o. slice_get lines (n - 1) ≡ o → AreBuilt ss (lits_of o)) [
-    | None ↦ λ e. All-nil (IsBuilt ss)
-    | Some line ↦ λ e. subst (λ l. AreBuilt ss l.lits) (get_or_from_slice_get lines (n - 1) line line e) (All-get_or (λ l. AreBuilt ss l.lits) lines (n - 1) line (slice_get_within lines (n - 1) line e) built)
+module _ (ss : List Sort) (lines : List Line) (fit : All (λ line. AreFit ss line.lits) lines) where
+  pub lits_fit : (n : ℕ) → AreFit ss (lits_at lines n)
+  lits_fit n = (elim (slice_get lines (n - 1)) as (λ o. slice_get lines (n - 1) ≡ o → AreFit ss (lits_of o)) [
+    | None ↦ λ e. All-nil (IsFit ss)
+    | Some line ↦ λ e. subst (λ l. AreFit ss l.lits) (get_or_from_slice_get lines (n - 1) line line e) (All-get_or (λ l. AreFit ss l.lits) lines (n - 1) line (slice_get_within lines (n - 1) line e) fit)
   ]) refl
 
-  nothing_built : IsBuilt ss nothing
-  nothing_built = record { bound = record { low = omega (arith, ints); high = omega (arith, ints) }; left = tt; right = tt }
+  nothing_fit : IsFit ss nothing
+  nothing_fit = record { bound = record { low = omega (arith, ints); high = omega (arith, ints) }; left = tt; right = tt }
 
-  lit_built : (c : Choice) → IsBuilt ss (lit_at lines c)
-  lit_built c = or_default (IsBuilt ss) (lits_at lines c.line) (c.lit - 1) nothing nothing_built (lits_built c.line)
+  lit_fit : (c : Choice) → IsFit ss (lit_at lines c)
+  lit_fit c = or_default (IsFit ss) (lits_at lines c.line) (c.lit - 1) nothing nothing_fit (lits_fit c.line)
 
-  pub place_built : (place : Place) → All (IsBuilt ss) (place_lits lines place)
-  place_built place = All-map (IsBuilt ss) (lit_at lines) place (each place)
+  pub place_fit : (place : Place) → All (IsFit ss) (place_lits lines place)
+  place_fit place = All-map (IsFit ss) (lit_at lines) place (each place)
     where
-      each : (place : Place) → All (λ c. IsBuilt ss (lit_at lines c)) place
-      each place = λ i d b. lit_built (get_or place i d)
+      each : (place : Place) → All (λ c. IsFit ss (lit_at lines c)) place
+      each place = λ i d b. lit_fit (get_or place i d)
 
-  pub places_built : (path singles : Place) → All (IsBuilt ss) (place_lits lines path ++ place_lits lines singles)
-  places_built path singles = All-append (IsBuilt ss) (place_lits lines path) (place_lits lines singles) (place_built path) (place_built singles)
+  pub places_fit : (path singles : Place) → All (IsFit ss) (place_lits lines path ++ place_lits lines singles)
+  places_fit path singles = All-append (IsFit ss) (place_lits lines path) (place_lits lines singles) (place_fit path) (place_fit singles)
 
 pub place_count : (lines : List Line) (place : Place) → length (place_lits lines place) ≡ length place
 place_count lines place = length-map place (lit_at lines)
@@ -84,10 +84,10 @@ module _ (ss : List Sort) (v : Values) (small : AreSmallIdx ss v) where
   side_small None h = zero_small
   side_small (Some name) h = small name.0 h
 
-  lit_readable : (l : Lit) → IsBuilt ss l → IsReadable v l
+  lit_readable : (l : Lit) → IsFit ss l → IsReadable v l
   lit_readable (Num l) h = h.fit
   lit_readable (Idx row) h = record { left = side_small row.left h.left; right = side_small row.right h.right }
-  lit_readable (Ptr l) h = h
+  lit_readable (Ptr l) h = tt
 
-  pub lines_readable : (lines : List Line) → All (λ line. AreBuilt ss line.lits) lines → All (AreReadable v) lines
-  lines_readable lines built = All-weaker (λ line. AreBuilt ss line.lits) (AreReadable v) (λ line h. All-weaker (IsBuilt ss) (IsReadable v) lit_readable line.lits h) lines built
+  pub lines_readable : (lines : List Line) → All (λ line. AreFit ss line.lits) lines → All (AreReadable v) lines
+  lines_readable lines fit = All-weaker (λ line. AreFit ss line.lits) (AreReadable v) (λ line h. All-weaker (IsFit ss) (IsReadable v) lit_readable line.lits h) lines fit

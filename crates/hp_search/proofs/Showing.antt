@@ -20,13 +20,13 @@ use Rattle.hp_descent.specs.declared.answer.RowStrain.{RowStrain}
 use Rattle.hp_descent.specs.Values.{value_in}
 use Rattle.hp_descent.proofs.Addition.{sum_at_same}
 use Rattle.hp_leaf.specs.Tree.{lits_at, nothing, IsLine, Place, place_lits, IsOpenAt}
-use Rattle.hp_lit.specs.Fit.{IsBuilt}
+use Rattle.hp_lit.specs.Fit.{IsFit}
 use Rattle.hp_path.specs.Decided.{AreOfChain, AreValuesFor}
 use Rattle.hp_search.specs.declared.searching.SearchErr.{SearchErr}
 use Rattle.hp_search.specs.declared.searching.SearchErr.TheVariants as search_err
-use Rattle.hp_search.specs.Lines.{AreBuilt, IsFalseLine, IsWideChoice, IsWideLit}
+use Rattle.hp_search.specs.Lines.{AreFit, IsFalseLine, IsWideChoice, IsWideLit}
 use Rattle.hp_search.specs.Search.{IsCauseAt, IsModelAt, IsStrainedAs, IsStrainedAt, IsStrainedLit}
-use Rattle.hp_search.proofs.Reading.{lits_built}
+use Rattle.hp_search.proofs.Reading.{lits_fit}
 
 pub all_true : (ss : List Sort) (lines : List Line) (place : Place) (v : Valuation) → AreValuesFor ss (place_lits lines place) v.values → All (λ line. LineIsTrue v.values line.lits) lines → IsModelAt ss lines place v
 all_true ss lines place v h all = record { sorted = h.sorted; small = h.small; holds = h.holds; all = all }
@@ -44,7 +44,7 @@ module _ (ss : List Sort) (lines : List Line) (place : Place) (v : Values) (chai
   strain : RowStrain
   strain = record { chain = chain; at = At.Literal choice.line choice.lit; form = Form.Sum; wide = wide }
 
-  lit_strained : (l : Lit) → IsBuilt ss l → IsLine lines choice.line → 1 ≤ choice.lit → slice_get (lits_at lines choice.line) (choice.lit - 1) ≡ Some l → IsWideLit v l wide → IsStrainedLit lines place strain
+  lit_strained : (l : Lit) → IsFit ss l → IsLine lines choice.line → 1 ≤ choice.lit → slice_get (lits_at lines choice.line) (choice.lit - 1) ≡ Some l → IsWideLit v l wide → IsStrainedLit lines place strain
   unfolding strain
   lit_strained (Idx row) b i from at w = absurd w
   lit_strained (Ptr l) b i from at w = absurd w
@@ -60,10 +60,10 @@ module _ (ss : List Sort) (lines : List Line) (place : Place) (v : Values) (chai
         strained = record { form = refl; values = made.values; solution = made.solution; strained = sym (sum_at_same (name_value v) (value_in made.values) (whole (pos 0)) l.parts same) ∙ w };
       }
 
-  pub wide_strained : All (λ line. AreBuilt ss line.lits) lines → IsWideChoice lines v choice wide → IsStrainedAt lines place (record { chain = chain; at = At.Literal choice.line choice.lit; form = Form.Sum; wide = wide })
+  pub wide_strained : All (λ line. AreFit ss line.lits) lines → IsWideChoice lines v choice wide → IsStrainedAt lines place (record { chain = chain; at = At.Literal choice.line choice.lit; form = Form.Sum; wide = wide })
   unfolding strain
-  wide_strained built h =
+  wide_strained fit h =
       let lits = lits_at lines choice.line in
       let n = choice.lit - 1 in
-      let b : IsBuilt ss h.sum.lit = subst (IsBuilt ss) (get_or_from_slice_get lits n h.sum.lit h.sum.lit h.sum.at) (All-get_or (IsBuilt ss) lits n h.sum.lit (slice_get_within lits n h.sum.lit h.sum.at) (lits_built ss lines built choice.line)) in
+      let b : IsFit ss h.sum.lit = subst (IsFit ss) (get_or_from_slice_get lits n h.sum.lit h.sum.lit h.sum.at) (All-get_or (IsFit ss) lits n h.sum.lit (slice_get_within lits n h.sum.lit h.sum.at) (lits_fit ss lines fit choice.line)) in
       inr (lit_strained h.sum.lit b h.within h.sum.from h.sum.at h.sum.strained)

@@ -1,5 +1,5 @@
 -- Whole numbers among the fractions.
-use Rattle.std.proofs.Common.{◌≡◌, ℕ, ◌^◌, ℤ, pos, neg_ℤ, ◌+ℤ◌, ◌-ℤ◌, ◌≤ℤ◌, inl, inr, refl, sym, ◌∙◌, ap, subst, arith, true, false, Some, to_z, of_z}
+use Rattle.std.proofs.Common.{◌≡◌, ℕ, ◌^◌, ℤ, pos, neg_ℤ, ◌+ℤ◌, ◌-ℤ◌, ◌≤ℤ◌, inl, inr, refl, sym, ◌∙◌, ap, subst, arith, true, false, ◌≤◌, length, [], ◌∷◌, zero, suc, Some, to_z, of_z}
 use Rattle.std.specs.Int.{w128}
 use Rattle.std.specs.Prelude.{slice_get}
 use Rattle.std.proofs.lemmas.Option.{get_or_from_slice_get}
@@ -67,3 +67,9 @@ index_small v n q r small at e =
   where
     bits : (r : ℤ) → pos 0 ≤ℤ (r +ℤ pos (10 ^ 37)) → r ≤ℤ pos (10 ^ 37) → IsSmallIndex (to_z w128 (of_z w128 r))
     bits r low high = record { low = omega (arith, ints); high = omega (arith, ints) }
+
+-- a name past the end
+pub missing : (v : Values) (n : ℕ) → length v ≤ n → name_value v n ≡ whole (pos 0)
+missing [] n h = refl
+missing (x ∷ xs) zero h = absurd (omega arith)
+missing (x ∷ xs) (suc n) h = missing xs n (omega arith)

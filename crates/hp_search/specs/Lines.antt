@@ -1,5 +1,5 @@
 -- Lines that can be searched, and what values make of them.
-use Rattle.std.specs.Prelude.{◌≡◌, ℕ, ◌^◌, ◌-◌, ◌≤◌, List, ℤ, pos, ◌+ℤ◌, ◌-ℤ◌, ◌≤ℤ◌, Option, Some, None, Err, slice_get, true}
+use Rattle.std.specs.Prelude.{◌≡◌, ℕ, ◌-◌, ◌≤◌, List, ℤ, pos, ◌+ℤ◌, ◌-ℤ◌, ◌≤ℤ◌, Option, Some, None, Err, slice_get, true}
 use Rattle.std.specs.List.{All}
 use Rattle.hp_math.specs.Rational.{whole}
 use Rattle.hp_num.specs.declared.wide.Wide.{Wide}
@@ -15,7 +15,7 @@ use Rattle.hp_diff.specs.Rows.{IsSmallWhole}
 use Rattle.hp_lit.specs.Fit.{IsNumFit}
 use Rattle.hp_descent.specs.Values.{sum_at}
 use Rattle.hp_leaf.specs.Tree.{lits_at, IsLine}
-use Rattle.hp_lit.specs.Fit.{IsBuilt}
+use Rattle.hp_lit.specs.Fit.{IsFit}
 use Rattle.hp_search.specs.declared.truth.Candidate.{Candidate}
 use Rattle.hp_search.specs.declared.truth.WideSum.{WideSum}
 use Rattle.hp_search.specs.declared.truth.LitTruth.{LitTruth}
@@ -26,8 +26,8 @@ use Rattle.hp_search.specs.declared.truth.Verdict.{Verdict}
 use Rattle.hp_search.specs.declared.truth.Verdict.TheVariants as verdict
 
 -- each literal is one that can be decided
-abbrev pub AreBuilt : List Sort → List Lit → Type 0
-AreBuilt sorts lits = All (IsBuilt sorts) lits
+abbrev pub AreFit : List Sort → List Lit → Type 0
+AreFit sorts lits = All (IsFit sorts) lits
 
 -- ---- truth by whole numbers
 -- a magnitude of at most 10^37
@@ -48,7 +48,7 @@ pub record HasSmallSides (v : Values) (row : IdxLit) : Type 0 where
 abbrev pub IsReadable : Values → Lit → Type 0
 IsReadable v (Num l) = IsNumFit l
 IsReadable v (Idx row) = HasSmallSides v row
-IsReadable v (Ptr l) = ⊥
+IsReadable v (Ptr l) = Unit {0}
 
 abbrev pub AreReadable : Values → Line → Type 0
 AreReadable v line = All (IsReadable v) line.lits

@@ -19,6 +19,7 @@ use Rattle.hp_descent.specs.declared.answer.At.TheVariants as At
 use Rattle.hp_descent.specs.declared.answer.Form.TheVariants as Form
 use Rattle.hp_descent.specs.declared.answer.Place.TheVariants.{Path}
 use Rattle.hp_descent.specs.declared.answer.RowStrain.{RowStrain}
+use Rattle.hp_descent.specs.declared.answer.Solution.{Solution}
 use Rattle.hp_descent.specs.declared.answer.Strain.{Strain}
 use Rattle.hp_descent.specs.Answers.{IsStrained}
 use Rattle.hp_descent.specs.Values.{IsSumStrained}
@@ -30,7 +31,6 @@ use Rattle.hp_search.specs.declared.looking.QuickLook.{QuickLook}
 use Rattle.hp_search.specs.declared.looking.QuickLook.TheVariants as quick_look
 use Rattle.hp_search.specs.declared.searching.SearchErr.{SearchErr}
 use Rattle.hp_search.specs.declared.searching.SearchErr.TheVariants as search_err
-use Rattle.hp_search.specs.declared.searching.Solution.{Solution}
 use Rattle.hp_search.specs.declared.looking.Seen.{Seen}
 use Rattle.hp_search.specs.declared.looking.Seen.TheVariants.{Model as SeenModel, Split as SeenSplit, Leaf as SeenLeaf}
 use Rattle.hp_search.specs.declared.searching.Found.{Found}

@@ -2,20 +2,19 @@
 ghost use Rattle.std.specs.Prelude.{◌≡◌, ◌≤◌, IfOk, length, true};
 ghost use Rattle.std.specs.List.{All};
 ghost use Rattle.hp_tree.specs.Limits.{most_lines};
-ghost use Rattle.hp_defs.specs.Names.{sorts};
 ghost use Rattle.hp_leaf.specs.Tree.{place_lits};
-ghost use Rattle.hp_search.specs.Lines.{AreBuilt};
+ghost use Rattle.hp_search.specs.Lines.{AreFit};
 ghost use Rattle.hp_search.specs.Search.{FindsAhead};
 ghost use Rattle.hp_search.specs.inner.Singles.{AreSinglesOf, IsLeafWithin};
 
 use crate::literals::{lits_of, push_lits};
 use crate::parts::unnamed;
 use crate::singles::suspects;
-use hp_defs::Ground;
 use hp_leaf::LeafProof;
-use hp_lit::{Choice, Share, Step, Valuation};
+use hp_lit::{Choice, Line, Share, Step, Valuation};
 use hp_num::List;
 use hp_path::{Quick, decide_patiently, decide_quickly};
+use hp_tree::Sort;
 use std::alloc::{AllocError, Global};
 
 /// What is found of the literals of a path.
@@ -57,14 +56,28 @@ fn are_shares_within(shares: &[Share], count: usize) -> bool
     true
 }
 
-/// Whether a leaf names no literal after the first `count`; false for a leaf over pointers.
+/// Whether no equality is a literal after the first `count`.
+fn are_links_within(links: &[u32], count: usize) -> bool
+    ensures { result ≡ true → All (λ link. link ≤ count) links.now }
+{
+    for link in links {
+        if *link as usize > count {
+            return false;
+        }
+    }
+    true
+}
+
+/// Whether a leaf names no literal after the first `count`.
 fn is_within(proof: &LeafProof, count: usize) -> bool
     ensures { result ≡ true → IsLeafWithin count proof.now }
 {
     match proof {
         LeafProof::Idx(steps) => are_steps_within(steps.as_slice(), count),
         LeafProof::Num(shares) => are_shares_within(shares.as_slice(), count),
-        LeafProof::Ptr { .. } => false,
+        LeafProof::Ptr { ne, path } => {
+            *ne as usize <= count && are_links_within(path.as_slice(), count)
+        }
     }
 }
 
@@ -80,16 +93,17 @@ fn one_of(alloc: Global, mut components: List<List<u32>>) -> List<u32> {
 /// gives up goes to the descent.
 fn decide_alone(
     alloc: Global,
-    g: &Ground,
+    sorts: &[Sort],
+    lines: &[Line],
     path: &[Choice],
     suspects: List<u32>,
 ) -> Result<Ahead, AllocError>
-    requires built { All (λ line. AreBuilt (sorts g.now.names) line.lits) g.now.lines }
+    requires fit { All (λ line. AreFit sorts.now line.lits) lines.now }
     requires path { length path.now ≤ most_lines }
-    ensures { IfOk result (FindsAhead (sorts g.now.names) (place_lits g.now.lines path.now)) }
+    ensures { IfOk result (FindsAhead sorts.now (place_lits lines.now path.now)) }
 {
-    let lits = lits_of(alloc, g, path)?;
-    match decide_patiently(alloc, &g.names, lits.as_slice())? {
+    let lits = lits_of(alloc, lines, path)?;
+    match decide_patiently(alloc, sorts, lits.as_slice())? {
         Quick::Values(values) => Ok(Ahead::Values { values, suspects }),
         Quick::Leaf(proof) => Ok(Ahead::Leaf(proof)),
         Quick::Unknown(components) => Ok(Ahead::Strained(one_of(alloc, components))),
@@ -100,18 +114,19 @@ fn decide_alone(
 /// has no answer goes to the descent.
 fn decide_beside(
     alloc: Global,
-    g: &Ground,
+    sorts: &[Sort],
+    lines: &[Line],
     others: &[Choice],
     path: &[Choice],
 ) -> Result<Ahead, AllocError>
-    requires built { All (λ line. AreBuilt (sorts g.now.names) line.lits) g.now.lines }
+    requires fit { All (λ line. AreFit sorts.now line.lits) lines.now }
     requires others { length others.now ≤ most_lines }
     requires path { length path.now ≤ most_lines }
-    ensures { IfOk result (FindsAhead (sorts g.now.names) (place_lits g.now.lines path.now)) }
+    ensures { IfOk result (FindsAhead sorts.now (place_lits lines.now path.now)) }
 {
-    let mut lits = lits_of(alloc, g, path)?;
-    push_lits(alloc, g, others, &mut lits)?;
-    match decide_patiently(alloc, &g.names, lits.as_slice())? {
+    let mut lits = lits_of(alloc, lines, path)?;
+    push_lits(alloc, lines, others, &mut lits)?;
+    match decide_patiently(alloc, sorts, lits.as_slice())? {
         Quick::Values(values) => Ok(Ahead::Values {
             values,
             suspects: List::new(alloc),
@@ -121,7 +136,7 @@ fn decide_beside(
             if is_within(&proof, path.len()) {
                 return Ok(Ahead::Leaf(proof));
             }
-            decide_alone(alloc, g, path, List::new(alloc))
+            decide_alone(alloc, sorts, lines, path, List::new(alloc))
         }
     }
 }
@@ -130,33 +145,34 @@ fn decide_beside(
 /// component for which the simplex gives up are left out.
 pub fn decide_ahead(
     alloc: Global,
-    g: &Ground,
+    sorts: &[Sort],
+    lines: &[Line],
     singles: &[Choice],
     path: &[Choice],
 ) -> Result<Ahead, AllocError>
-    requires built { All (λ line. AreBuilt (sorts g.now.names) line.lits) g.now.lines }
-    requires lines { length g.now.lines ≤ most_lines }
-    requires singles { AreSinglesOf g.now.lines singles.now }
+    requires fit { All (λ line. AreFit sorts.now line.lits) lines.now }
+    requires lines { length lines.now ≤ most_lines }
+    requires singles { AreSinglesOf lines.now singles.now }
     requires path { length path.now ≤ most_lines }
-    ensures { IfOk result (FindsAhead (sorts g.now.names) (place_lits g.now.lines path.now)) }
+    ensures { IfOk result (FindsAhead sorts.now (place_lits lines.now path.now)) }
 {
-    let mut lits = lits_of(alloc, g, path)?;
-    push_lits(alloc, g, singles, &mut lits)?;
-    match decide_quickly(alloc, &g.names, lits.as_slice())? {
+    let mut lits = lits_of(alloc, lines, path)?;
+    push_lits(alloc, lines, singles, &mut lits)?;
+    match decide_quickly(alloc, sorts, lits.as_slice())? {
         Quick::Values(values) => Ok(Ahead::Values {
             values,
             suspects: List::new(alloc),
         }),
         Quick::Unknown(components) => {
             let others = unnamed(alloc, singles, path.len(), components.as_slice())?;
-            decide_beside(alloc, g, others.as_slice(), path)
+            decide_beside(alloc, sorts, lines, others.as_slice(), path)
         }
         Quick::Leaf(proof) => {
             if is_within(&proof, path.len()) {
                 return Ok(Ahead::Leaf(proof));
             }
             let suspects = suspects(alloc, singles, path.len(), &proof)?;
-            decide_alone(alloc, g, path, suspects)
+            decide_alone(alloc, sorts, lines, path, suspects)
         }
     }
 }

@@ -9,6 +9,7 @@ mod parts;
 mod places;
 mod searching;
 mod singles;
+mod spread;
 mod truth;
 
-pub use searching::{Found, SearchErr, Solution, search};
+pub use searching::{Found, SearchErr, search};

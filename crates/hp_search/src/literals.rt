@@ -2,18 +2,17 @@
 ghost use Rattle.std.specs.Prelude.{◌≡◌, ◌++◌, ◌∷◌, [], IfOk, OnOk};
 ghost use Rattle.hp_leaf.specs.Tree.{lit_at, place_lits};
 
-use hp_defs::Ground;
-use hp_lit::{Choice, IdxLit, Lit};
+use hp_lit::{Choice, IdxLit, Line, Lit};
 use hp_num::List;
 use std::alloc::{AllocError, Global};
 
 /// A copy of the literal of a choice; `0 <= 0` where there is none.
-fn lit_at(alloc: Global, g: &Ground, choice: Choice) -> Result<Lit, AllocError>
-    ensures { IfOk result (λ lit. lit ≡ lit_at g.now.lines choice) }
+fn lit_at(alloc: Global, lines: &[Line], choice: Choice) -> Result<Lit, AllocError>
+    ensures { IfOk result (λ lit. lit ≡ lit_at lines.now choice) }
 {
     let line = (choice.line as usize).saturating_sub(1);
     let lit = (choice.lit as usize).saturating_sub(1);
-    match g.lines.as_slice().get(line) {
+    match lines.get(line) {
         None => Ok(nothing()),
         Some(line) => match line.lits.as_slice().get(lit) {
             None => Ok(nothing()),
@@ -37,23 +36,23 @@ fn nothing() -> Lit
 /// Appends the literals of these choices.
 pub fn push_lits(
     alloc: Global,
-    g: &Ground,
+    lines: &[Line],
     path: &[Choice],
     lits: &mut List<Lit>,
 ) -> Result<(), AllocError>
-    ensures { OnOk result (lits.new ≡ lits.old ++ place_lits g.now.lines path.now) }
+    ensures { OnOk result (lits.new ≡ lits.old ++ place_lits lines.now path.now) }
 {
     for choice in path {
-        lits.push(lit_at(alloc, g, *choice)?)?;
+        lits.push(lit_at(alloc, lines, *choice)?)?;
     }
     Ok(())
 }
 
 /// The literals of a path.
-pub fn lits_of(alloc: Global, g: &Ground, path: &[Choice]) -> Result<List<Lit>, AllocError>
-    ensures { IfOk result (λ lits. lits ≡ place_lits g.now.lines path.now) }
+pub fn lits_of(alloc: Global, lines: &[Line], path: &[Choice]) -> Result<List<Lit>, AllocError>
+    ensures { IfOk result (λ lits. lits ≡ place_lits lines.now path.now) }
 {
     let mut lits = List::new(alloc);
-    push_lits(alloc, g, path, &mut lits)?;
+    push_lits(alloc, lines, path, &mut lits)?;
     Ok(lits)
 }

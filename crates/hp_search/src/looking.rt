@@ -8,9 +8,9 @@
 ghost use Rattle.std.specs.Prelude.{◌≡◌, ◌≤◌, [], IfOk, IfErr, IfSome, length};
 ghost use Rattle.std.specs.List.{All};
 ghost use Rattle.hp_tree.specs.Limits.{most_lines};
-ghost use Rattle.hp_defs.specs.Names.{sorts};
+ghost use Rattle.hp_lit.specs.Fit.{IsFit};
 ghost use Rattle.hp_path.specs.Decided.{AreOfChain, AreValuesFor};
-ghost use Rattle.hp_search.specs.Lines.{AreBuilt};
+ghost use Rattle.hp_search.specs.Lines.{AreFit};
 ghost use Rattle.hp_search.specs.Search.{IsCauseAt, IsCauseWithin, IsModelAt, IsPartOf, IsStrainedAt, Looks, Sees, SeesChain, sum_strain};
 ghost use Rattle.hp_search.specs.inner.Singles.{AreSinglesOf};
 
@@ -18,14 +18,18 @@ use crate::ahead::{Ahead, decide_ahead};
 use crate::literals::{lits_of, push_lits};
 use crate::parts::part_at;
 use crate::searching::SearchErr;
+use crate::spread::{mentioned, push_apart};
 use crate::truth::{Verdict, first_false, wide_at};
-use hp_defs::Ground;
 use hp_descent::{At, DescentErr, Form, Place, RowStrain, Strain};
 use hp_leaf::LeafProof;
-use hp_lit::{Choice, Valuation};
+use hp_lit::{Choice, Line, Lit, Valuation};
 use hp_num::{List, Wide};
 use hp_path::{Decision, Quick, component_of_last, decide, decide_quickly};
+use hp_tree::Sort;
 use std::alloc::{AllocError, Global};
+
+/// The most literals that are decided together.
+const MOST_ROWS: usize = 100_000;
 
 /// A choice that names no literal.
 const NOWHERE: Choice = Choice { line: 0, lit: 0 };
@@ -54,12 +58,12 @@ enum QuickLook {
 
 /// The last literal of each line that has one: for a clause, one of the last atom of its head, or of its guard where the
 /// head has no atom.
-fn last_choices(alloc: Global, g: &Ground) -> Result<List<Choice>, AllocError>
-    requires lines { length g.now.lines ≤ most_lines }
-    ensures { IfOk result (λ last. length last ≤ length g.now.lines) }
+fn last_choices(alloc: Global, lines: &[Line]) -> Result<List<Choice>, AllocError>
+    requires lines { length lines.now ≤ most_lines }
+    ensures { IfOk result (λ last. length last ≤ length lines.now) }
 {
     let mut last = List::new(alloc);
-    for (at, line) in g.lines.as_slice().iter().enumerate() {
+    for (at, line) in lines.iter().enumerate() {
         match u32::try_from(line.lits.len()) {
             Ok(0) | Err(_) => {}
             Ok(lit) => last.push(Choice {
@@ -71,42 +75,100 @@ fn last_choices(alloc: Global, g: &Ground) -> Result<List<Choice>, AllocError>
     Ok(last)
 }
 
-/// Values that make every line true, where the last literals of all lines can be true at once and this shows quickly. So
-/// clauses with guards need no tree where their heads agree.
-pub fn guess_model(alloc: Global, g: &Ground) -> Result<Option<Valuation>, AllocError>
-    requires built { All (λ line. AreBuilt (sorts g.now.names) line.lits) g.now.lines }
-    requires lines { length g.now.lines ≤ most_lines }
-    ensures { IfOk result (λ guess. IfSome guess (λ v. IsModelAt (sorts g.now.names) g.now.lines [] v)) }
+/// The values that these literals have, where this shows quickly and they make every line true.
+fn values_of(
+    alloc: Global,
+    sorts: &[Sort],
+    lines: &[Line],
+    lits: &[Lit],
+) -> Result<Option<Valuation>, AllocError>
+    requires fit { All (λ line. AreFit sorts.now line.lits) lines.now }
+    requires lines { length lines.now ≤ most_lines }
+    requires lits { All (IsFit sorts.now) lits.now }
+    ensures { IfOk result (λ guess. IfSome guess (λ v. IsModelAt sorts.now lines.now [] v)) }
 {
-    let last = last_choices(alloc, g)?;
-    let lits = lits_of(alloc, g, last.as_slice())?;
-    match decide_quickly(alloc, &g.names, lits.as_slice())? {
+    if lits.len() > MOST_ROWS {
+        return Ok(None);
+    }
+    match decide_quickly(alloc, sorts, lits)? {
         Quick::Leaf(_) | Quick::Unknown(_) => Ok(None),
-        Quick::Values(values) => match first_false(g, &values, &[])? {
+        Quick::Values(values) => match first_false(lines, &values, &[])? {
             Verdict::AllTrue => Ok(Some(values)),
             Verdict::False(_) | Verdict::Wide { .. } => Ok(None),
         },
     }
 }
 
+/// Values that make every line true, where the last literals of all lines can be true at once and this shows quickly. So
+/// clauses with guards need no tree where their heads agree.
+fn guess_model(
+    alloc: Global,
+    sorts: &[Sort],
+    lines: &[Line],
+) -> Result<Option<Valuation>, AllocError>
+    requires fit { All (λ line. AreFit sorts.now line.lits) lines.now }
+    requires lines { length lines.now ≤ most_lines }
+    ensures { IfOk result (λ guess. IfSome guess (λ v. IsModelAt sorts.now lines.now [] v)) }
+{
+    let last = last_choices(alloc, lines)?;
+    let lits = lits_of(alloc, lines, last.as_slice())?;
+    values_of(alloc, sorts, lines, lits.as_slice())
+}
+
+/// Values that make every line true, where those do that keep apart the names that no line of one literal is over and this
+/// shows quickly. So functions of names that nothing fixes need no tree.
+fn guess_spread(
+    alloc: Global,
+    sorts: &[Sort],
+    lines: &[Line],
+    singles: &[Choice],
+) -> Result<Option<Valuation>, AllocError>
+    requires fit { All (λ line. AreFit sorts.now line.lits) lines.now }
+    requires lines { length lines.now ≤ most_lines }
+    ensures { IfOk result (λ guess. IfSome guess (λ v. IsModelAt sorts.now lines.now [] v)) }
+{
+    let mut lits = lits_of(alloc, lines, singles)?;
+    let marks = mentioned(alloc, sorts.len(), lits.as_slice())?;
+    push_apart(alloc, sorts, marks.as_slice(), &mut lits)?;
+    values_of(alloc, sorts, lines, lits.as_slice())
+}
+
+/// Values that make every line true, where one of the two guesses finds them.
+pub fn guess(
+    alloc: Global,
+    sorts: &[Sort],
+    lines: &[Line],
+    singles: &[Choice],
+) -> Result<Option<Valuation>, AllocError>
+    requires fit { All (λ line. AreFit sorts.now line.lits) lines.now }
+    requires lines { length lines.now ≤ most_lines }
+    ensures { IfOk result (λ guess. IfSome guess (λ v. IsModelAt sorts.now lines.now [] v)) }
+{
+    match guess_model(alloc, sorts, lines)? {
+        Some(values) => Ok(Some(values)),
+        None => guess_spread(alloc, sorts, lines, singles),
+    }
+}
+
 /// Looks for a line that values leave false, without chains.
 fn look_quickly(
     alloc: Global,
-    g: &Ground,
+    sorts: &[Sort],
+    lines: &[Line],
     singles: &[Choice],
     path: &[Choice],
 ) -> Result<QuickLook, AllocError>
-    requires built { All (λ line. AreBuilt (sorts g.now.names) line.lits) g.now.lines }
-    requires lines { length g.now.lines ≤ most_lines }
-    requires singles { AreSinglesOf g.now.lines singles.now }
+    requires fit { All (λ line. AreFit sorts.now line.lits) lines.now }
+    requires lines { length lines.now ≤ most_lines }
+    requires singles { AreSinglesOf lines.now singles.now }
     requires path { length path.now ≤ most_lines }
-    ensures { IfOk result (Looks (sorts g.now.names) g.now.lines path.now) }
+    ensures { IfOk result (Looks sorts.now lines.now path.now) }
 {
-    match decide_ahead(alloc, g, singles, path)? {
+    match decide_ahead(alloc, sorts, lines, singles, path)? {
         Ahead::Strained(places) => Ok(QuickLook::Strained(places)),
         Ahead::Leaf(proof) => Ok(QuickLook::Seen(Seen::Leaf(proof))),
         Ahead::Values { values, suspects } => {
-            match first_false(g, &values, suspects.as_slice())? {
+            match first_false(lines, &values, suspects.as_slice())? {
                 Verdict::AllTrue => Ok(QuickLook::Seen(Seen::Model {
                     values,
                     chain: None,
@@ -132,19 +194,24 @@ fn strained(alloc: Global, path: &[Choice], row: RowStrain) -> SearchErr
 }
 
 /// Decides the literals of the path by dimension descent, and looks for a line that the values of its chain leave false.
-fn look_exactly(alloc: Global, g: &Ground, path: &[Choice]) -> Result<Seen, SearchErr>
-    requires built { All (λ line. AreBuilt (sorts g.now.names) line.lits) g.now.lines }
-    requires lines { length g.now.lines ≤ most_lines }
+fn look_exactly(
+    alloc: Global,
+    sorts: &[Sort],
+    lines: &[Line],
+    path: &[Choice],
+) -> Result<Seen, SearchErr>
+    requires fit { All (λ line. AreFit sorts.now line.lits) lines.now }
+    requires lines { length lines.now ≤ most_lines }
     requires path { length path.now ≤ most_lines }
-    ensures seen { IfOk result (SeesChain (sorts g.now.names) g.now.lines path.now) }
-    ensures strained { IfErr result (IsCauseAt g.now.lines path.now) }
+    ensures seen { IfOk result (SeesChain sorts.now lines.now path.now) }
+    ensures strained { IfErr result (IsCauseAt lines.now path.now) }
 {
-    let lits = lits_of(alloc, g, path)?;
-    match decide(alloc, &g.names, lits.as_slice()) {
+    let lits = lits_of(alloc, lines, path)?;
+    match decide(alloc, sorts, lits.as_slice()) {
         Err(DescentErr::Memory) => Err(SearchErr::Memory),
         Err(DescentErr::Strain(row)) => Err(strained(alloc, path, row)),
         Ok(Decision::Leaf(proof)) => Ok(Seen::Leaf(proof)),
-        Ok(Decision::Values { values, chain }) => match first_false(g, &values, &[])? {
+        Ok(Decision::Values { values, chain }) => match first_false(lines, &values, &[])? {
             Verdict::AllTrue => Ok(Seen::Model {
                 values,
                 chain: Some(chain),
@@ -158,17 +225,23 @@ fn look_exactly(alloc: Global, g: &Ground, path: &[Choice]) -> Result<Seen, Sear
 }
 
 /// As `look_exactly`, with a chain only where `exact`.
-fn look_wholly(alloc: Global, g: &Ground, path: &[Choice], exact: bool) -> Result<Seen, SearchErr>
-    requires built { All (λ line. AreBuilt (sorts g.now.names) line.lits) g.now.lines }
-    requires lines { length g.now.lines ≤ most_lines }
+fn look_wholly(
+    alloc: Global,
+    sorts: &[Sort],
+    lines: &[Line],
+    path: &[Choice],
+    exact: bool,
+) -> Result<Seen, SearchErr>
+    requires fit { All (λ line. AreFit sorts.now line.lits) lines.now }
+    requires lines { length lines.now ≤ most_lines }
     requires path { length path.now ≤ most_lines }
-    ensures seen { IfOk result (Sees (sorts g.now.names) g.now.lines path.now exact) }
-    ensures strained { IfErr result (IsCauseAt g.now.lines path.now) }
+    ensures seen { IfOk result (Sees sorts.now lines.now path.now exact) }
+    ensures strained { IfErr result (IsCauseAt lines.now path.now) }
 {
     if exact {
-        return look_exactly(alloc, g, path);
+        return look_exactly(alloc, sorts, lines, path);
     }
-    match look_exactly(alloc, g, path)? {
+    match look_exactly(alloc, sorts, lines, path)? {
         Seen::Model { values, .. } => Ok(Seen::Model {
             values,
             chain: None,
@@ -182,20 +255,21 @@ fn look_wholly(alloc: Global, g: &Ground, path: &[Choice], exact: bool) -> Resul
 /// there is one.
 fn strain_over(
     alloc: Global,
-    g: &Ground,
+    sorts: &[Sort],
+    lines: &[Line],
     path: &[Choice],
     choice: Choice,
 ) -> Result<Option<RowStrain>, AllocError>
-    requires built { All (λ line. AreBuilt (sorts g.now.names) line.lits) g.now.lines }
+    requires fit { All (λ line. AreFit sorts.now line.lits) lines.now }
     requires path { length path.now ≤ most_lines }
-    ensures { IfOk result (λ strain. IfSome strain (IsStrainedAt g.now.lines path.now)) }
+    ensures { IfOk result (λ strain. IfSome strain (IsStrainedAt lines.now path.now)) }
 {
-    let lits = lits_of(alloc, g, path)?;
-    match decide(alloc, &g.names, lits.as_slice()) {
+    let lits = lits_of(alloc, lines, path)?;
+    match decide(alloc, sorts, lits.as_slice()) {
         Err(DescentErr::Memory) => Err(AllocError),
         Err(DescentErr::Strain(row)) => Ok(Some(row)),
         Ok(Decision::Leaf(_)) => Ok(None),
-        Ok(Decision::Values { values, chain }) => match wide_at(g, &values, choice) {
+        Ok(Decision::Values { values, chain }) => match wide_at(lines, &values, choice) {
             Some(wide) => Ok(Some(strain_of(chain, choice, wide))),
             None => Ok(None),
         },
@@ -221,42 +295,44 @@ fn strain_of(chain: List<u32>, choice: Choice, wide: Wide) -> RowStrain
 /// where there is one; else as `look_wholly`.
 fn look_within(
     alloc: Global,
-    g: &Ground,
+    sorts: &[Sort],
+    lines: &[Line],
     path: &[Choice],
     part: List<Choice>,
     choice: Choice,
     exact: bool,
 ) -> Result<Seen, SearchErr>
-    requires built { All (λ line. AreBuilt (sorts g.now.names) line.lits) g.now.lines }
-    requires lines { length g.now.lines ≤ most_lines }
+    requires fit { All (λ line. AreFit sorts.now line.lits) lines.now }
+    requires lines { length lines.now ≤ most_lines }
     requires path { length path.now ≤ most_lines }
     requires part { IsPartOf part path.now }
-    ensures seen { IfOk result (Sees (sorts g.now.names) g.now.lines path.now exact) }
-    ensures strained { IfErr result (IsCauseWithin g.now.lines path.now) }
+    ensures seen { IfOk result (Sees sorts.now lines.now path.now exact) }
+    ensures strained { IfErr result (IsCauseWithin lines.now path.now) }
 {
-    match strain_over(alloc, g, part.as_slice(), choice)? {
+    match strain_over(alloc, sorts, lines, part.as_slice(), choice)? {
         Some(row) => Err(SearchErr::Strain(Strain {
             place: Place::Path(part),
             row,
         })),
-        None => look_wholly(alloc, g, path, exact),
+        None => look_wholly(alloc, sorts, lines, path, exact),
     }
 }
 
 /// The choices of the path that share a name, directly or through others, with the literal of this choice.
 fn part_beside(
     alloc: Global,
-    g: &Ground,
+    sorts: &[Sort],
+    lines: &[Line],
     path: &[Choice],
     choice: Choice,
 ) -> Result<List<Choice>, AllocError>
-    requires built { All (λ line. AreBuilt (sorts g.now.names) line.lits) g.now.lines }
+    requires fit { All (λ line. AreFit sorts.now line.lits) lines.now }
     requires path { length path.now ≤ most_lines }
     ensures { IfOk result (λ part. IsPartOf part path.now) }
 {
-    let mut lits = lits_of(alloc, g, path)?;
-    push_lits(alloc, g, &[choice], &mut lits)?;
-    let places = component_of_last(alloc, &g.names, lits.as_slice())?;
+    let mut lits = lits_of(alloc, lines, path)?;
+    push_lits(alloc, lines, &[choice], &mut lits)?;
+    let places = component_of_last(alloc, sorts, lits.as_slice())?;
     part_at(alloc, path, places.as_slice())
 }
 
@@ -264,35 +340,36 @@ fn part_beside(
 /// a model are those of a chain of the path. A strain is one over some choices of the path.
 pub fn look(
     alloc: Global,
-    g: &Ground,
+    sorts: &[Sort],
+    lines: &[Line],
     singles: &[Choice],
     path: &[Choice],
     exact: bool,
 ) -> Result<Seen, SearchErr>
-    requires built { All (λ line. AreBuilt (sorts g.now.names) line.lits) g.now.lines }
-    requires lines { length g.now.lines ≤ most_lines }
-    requires singles { AreSinglesOf g.now.lines singles.now }
+    requires fit { All (λ line. AreFit sorts.now line.lits) lines.now }
+    requires lines { length lines.now ≤ most_lines }
+    requires singles { AreSinglesOf lines.now singles.now }
     requires path { length path.now ≤ most_lines }
-    ensures seen { IfOk result (Sees (sorts g.now.names) g.now.lines path.now exact) }
-    ensures strained { IfErr result (IsCauseWithin g.now.lines path.now) }
+    ensures seen { IfOk result (Sees sorts.now lines.now path.now exact) }
+    ensures strained { IfErr result (IsCauseWithin lines.now path.now) }
 {
-    match look_quickly(alloc, g, singles, path)? {
+    match look_quickly(alloc, sorts, lines, singles, path)? {
         QuickLook::Seen(Seen::Split(line)) => Ok(Seen::Split(line)),
         QuickLook::Seen(Seen::Leaf(proof)) => Ok(Seen::Leaf(proof)),
         QuickLook::Seen(Seen::Model { values, chain }) => {
             if exact {
-                look_wholly(alloc, g, path, exact)
+                look_wholly(alloc, sorts, lines, path, exact)
             } else {
                 Ok(Seen::Model { values, chain })
             }
         }
         QuickLook::Strained(places) => {
             let part = part_at(alloc, path, places.as_slice())?;
-            look_within(alloc, g, path, part, NOWHERE, exact)
+            look_within(alloc, sorts, lines, path, part, NOWHERE, exact)
         }
         QuickLook::Wide(choice) => {
-            let part = part_beside(alloc, g, path, choice)?;
-            look_within(alloc, g, path, part, choice, exact)
+            let part = part_beside(alloc, sorts, lines, path, choice)?;
+            look_within(alloc, sorts, lines, path, part, choice, exact)
         }
     }
 }

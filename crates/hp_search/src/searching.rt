@@ -3,32 +3,20 @@
 ghost use Rattle.std.specs.Prelude.{◌≤◌, IfOk, IfErr, length};
 ghost use Rattle.std.specs.List.{All};
 ghost use Rattle.hp_tree.specs.Limits.{most_lines};
-ghost use Rattle.hp_defs.specs.Names.{sorts};
 ghost use Rattle.hp_leaf.specs.Tree.{limit};
-ghost use Rattle.hp_search.specs.Lines.{AreBuilt};
+ghost use Rattle.hp_search.specs.Lines.{AreFit};
 ghost use Rattle.hp_search.specs.Search.{IsAt, IsCause, IsFound, IsNotSpent, Turned};
 ghost use Rattle.hp_search.specs.inner.Singles.{AreSinglesOf};
 
-use crate::looking::{Seen, guess_model, look};
+use crate::looking::{Seen, guess, look};
 use crate::places::{enter, go_on, leave};
 use crate::singles::{close_singles, singles_of};
-use hp_defs::Ground;
-use hp_descent::Strain;
+use hp_descent::{Solution, Strain};
 use hp_leaf::Node;
-use hp_lit::{Choice, Valuation};
+use hp_lit::{Choice, Line, Valuation};
 use hp_num::List;
+use hp_tree::Sort;
 use std::alloc::{AllocError, Global};
-
-/// Values that make every line true, and the honest path at which they were found: before each of its choices some
-/// values make the choices so far true and the line of the choice false.
-#[derive(Drop)]
-pub struct Solution {
-    pub values: Valuation,
-    pub path: List<Choice>,
-    /// Where the search was to be exact, the rows of a chain of the literals over fractions of the path, whose numbers count
-    /// from 1 (that of t) and fall: its point gives the values of the names of sort num.
-    pub chain: Option<List<u32>>,
-}
 
 /// What a search found.
 #[derive(Drop)]
@@ -76,24 +64,25 @@ enum Turn {
 /// Splits or closes the first place that waits.
 fn open_place(
     alloc: Global,
-    g: &Ground,
+    sorts: &[Sort],
+    lines: &[Line],
     singles: &[Choice],
     tree: &mut List<Node>,
     path: &mut List<Choice>,
     exact: bool,
 ) -> Result<Turn, SearchErr>
-    requires built { All (λ line. AreBuilt (sorts g.now.names) line.lits) g.now.lines }
-    requires lines { length g.now.lines ≤ most_lines }
-    requires singles { AreSinglesOf g.now.lines singles.now }
-    requires at { IsAt (sorts g.now.names) g.now.lines tree.old path.old }
-    ensures turned { IfOk result (Turned (sorts g.now.names) g.now.lines exact tree.old tree.new path.new) }
-    ensures cause { IfErr result (IsCause (sorts g.now.names) g.now.lines) }
+    requires fit { All (λ line. AreFit sorts.now line.lits) lines.now }
+    requires lines { length lines.now ≤ most_lines }
+    requires singles { AreSinglesOf lines.now singles.now }
+    requires at { IsAt sorts.now lines.now tree.old path.old }
+    ensures turned { IfOk result (Turned sorts.now lines.now exact tree.old tree.new path.new) }
+    ensures cause { IfErr result (IsCause sorts.now lines.now) }
 {
-    match look(alloc, g, singles, path.as_slice(), exact)? {
+    match look(alloc, sorts, lines, singles, path.as_slice(), exact)? {
         Seen::Model { values, chain } => Ok(Turn::Model { values, chain }),
         Seen::Split(line) => {
             tree.push(Node::Split { line })?;
-            if enter(g, path, line)? {
+            if enter(lines, path, line)? {
                 Ok(Turn::Open)
             } else {
                 Ok(Turn::Closed)
@@ -101,7 +90,7 @@ fn open_place(
         }
         Seen::Leaf(proof) => {
             tree.push(Node::Leaf(proof))?;
-            if go_on(g, path)? {
+            if go_on(lines, path)? {
                 Ok(Turn::Open)
             } else {
                 Ok(Turn::Closed)
@@ -113,23 +102,24 @@ fn open_place(
 /// The search, place by place in preorder.
 fn search_places(
     alloc: Global,
-    g: &Ground,
+    sorts: &[Sort],
+    lines: &[Line],
     singles: &[Choice],
     most: u64,
     exact: bool,
 ) -> Result<Found, SearchErr>
     requires most { 1 ≤ most }
-    requires built { All (λ line. AreBuilt (sorts g.now.names) line.lits) g.now.lines }
-    requires lines { length g.now.lines ≤ most_lines }
-    requires singles { AreSinglesOf g.now.lines singles.now }
-    ensures found { IfOk result (IsFound (sorts g.now.names) g.now.lines most exact) }
-    ensures cause { IfErr result (IsCause (sorts g.now.names) g.now.lines) }
-    ensures enough { limit g.now.lines ≤ most → IfOk result IsNotSpent }
+    requires fit { All (λ line. AreFit sorts.now line.lits) lines.now }
+    requires lines { length lines.now ≤ most_lines }
+    requires singles { AreSinglesOf lines.now singles.now }
+    ensures found { IfOk result (IsFound sorts.now lines.now most exact) }
+    ensures cause { IfErr result (IsCause sorts.now lines.now) }
+    ensures enough { limit lines.now ≤ most → IfOk result IsNotSpent }
 {
     let mut tree = List::new(alloc);
     let mut path = List::new(alloc);
     for _done in 0..most {
-        match open_place(alloc, g, singles, &mut tree, &mut path, exact)? {
+        match open_place(alloc, sorts, lines, singles, &mut tree, &mut path, exact)? {
             Turn::Model { values, chain } => {
                 return Ok(Found::Model(Solution {
                     values,
@@ -141,15 +131,15 @@ fn search_places(
             Turn::Open => {}
         }
     }
-    leave(g, &mut tree, &mut path)?;
+    leave(lines, &mut tree, &mut path)?;
     Ok(Found::Spent(tree))
 }
 
 /// Searches for values that make every line true, with at most `most` splits and leaves. A tree of lines of one literal
 /// that can't all be true is made before that, and may have more.
 ///
-/// `Model` has a value for each name, of the name's sort, those of index names of a magnitude of at most 10^37. They
-/// make every line true. Where `exact`, those of sort num are what the point of its chain gives, and 0 where a name occurs in
+/// `Model` has a value for each name, of the name's sort, those of sort idx of a magnitude of at most 10^37. They make
+/// every line true. Where `exact`, those of sort num are what the point of its chain gives, and 0 where a name occurs in
 /// no literal of its path; the chain is there exactly then. `Closed` has a tree whose splits name lines and have a tree for
 /// each literal, and whose leaves are all valid; there are then no such values. `Spent` has an honest tree with exactly
 /// `most` splits and leaves and at least one unopened place: at each split some values make its path true and its line
@@ -160,23 +150,29 @@ fn search_places(
 /// fractions, or in the sum of a literal of a line at values that satisfy them. `Memory` says that memory was wanting,
 /// or that the number of a literal in its line has more than 32 bits.
 ///
-/// It asks for `most` from 1 on and at most 50,000 lines. Each literal is over fractions, in normal form and over names of
-/// sort num, or over whole numbers, of names of sort idx and with a bound of a magnitude of at most 10^25; literals over
-/// pointers aren't searched yet.
-pub fn search(alloc: Global, g: &Ground, most: u64, exact: bool) -> Result<Found, SearchErr>
+/// It asks for `most` from 1 on and at most 50,000 lines. `sorts` has a sort for each name. Each literal is over fractions, of
+/// names of sort num that rise strictly and with no number above 2^127 - 1 in magnitude; over whole numbers, of names of
+/// sort idx and with a bound of a magnitude of at most 10^25; or over pointers, of names of sort ptr.
+pub fn search(
+    alloc: Global,
+    sorts: &[Sort],
+    lines: &[Line],
+    most: u64,
+    exact: bool,
+) -> Result<Found, SearchErr>
     requires most { 1 ≤ most }
-    requires lines { length g.now.lines ≤ most_lines }
-    requires built { All (λ line. AreBuilt (sorts g.now.names) line.lits) g.now.lines }
-    ensures found { IfOk result (IsFound (sorts g.now.names) g.now.lines most exact) }
-    ensures cause { IfErr result (IsCause (sorts g.now.names) g.now.lines) }
-    ensures enough { limit g.now.lines ≤ most → IfOk result IsNotSpent }
+    requires lines { length lines.now ≤ most_lines }
+    requires fit { All (λ line. AreFit sorts.now line.lits) lines.now }
+    ensures found { IfOk result (IsFound sorts.now lines.now most exact) }
+    ensures cause { IfErr result (IsCause sorts.now lines.now) }
+    ensures enough { limit lines.now ≤ most → IfOk result IsNotSpent }
 {
-    let singles = singles_of(alloc, g)?;
-    if let Some(tree) = close_singles(alloc, g, singles.as_slice())? {
+    let singles = singles_of(alloc, lines)?;
+    if let Some(tree) = close_singles(alloc, sorts, lines, singles.as_slice())? {
         return Ok(Found::Closed(tree));
     }
     if !exact {
-        if let Some(values) = guess_model(alloc, g)? {
+        if let Some(values) = guess(alloc, sorts, lines, singles.as_slice())? {
             return Ok(Found::Model(Solution {
                 values,
                 path: List::new(alloc),
@@ -184,5 +180,5 @@ pub fn search(alloc: Global, g: &Ground, most: u64, exact: bool) -> Result<Found
             }));
         }
     }
-    search_places(alloc, g, singles.as_slice(), most, exact)
+    search_places(alloc, sorts, lines, singles.as_slice(), most, exact)
 }

@@ -2,27 +2,26 @@
 ghost use Rattle.std.specs.Prelude.{◌≡◌, ◌≤◌, ◌<◌, ◌∷◌, [], ◌++◌, IfOk, IfSome, length, map};
 ghost use Rattle.std.specs.List.{All};
 ghost use Rattle.hp_tree.specs.Limits.{most_lines};
-ghost use Rattle.hp_defs.specs.Names.{sorts};
 ghost use Rattle.hp_leaf.specs.Leaf.{IsValid};
 ghost use Rattle.hp_leaf.specs.Tree.{IsClosed, place_lits};
-ghost use Rattle.hp_search.specs.Lines.{AreBuilt};
-ghost use Rattle.hp_search.specs.inner.Singles.{AreSinglesOf, line_at, lines_of_shares, lines_of_steps, shares_in_order, splits_of, steps_in_order};
+ghost use Rattle.hp_search.specs.Lines.{AreFit};
+ghost use Rattle.hp_search.specs.inner.Singles.{AreSinglesOf, line_at, lines_of_links, lines_of_shares, lines_of_steps, links_in_order, shares_in_order, splits_of, steps_in_order};
 
 use crate::literals::lits_of;
-use hp_defs::Ground;
 use hp_leaf::{LeafProof, Node};
-use hp_lit::{Choice, Share, Step};
+use hp_lit::{Choice, Line, Share, Step};
 use hp_num::List;
 use hp_path::{Quick, decide_quickly};
+use hp_tree::Sort;
 use std::alloc::{AllocError, Global};
 
 /// The choices of the only literal of each line that has one.
-pub fn singles_of(alloc: Global, g: &Ground) -> Result<List<Choice>, AllocError>
-    requires lines { length g.now.lines ≤ most_lines }
-    ensures { IfOk result (λ singles. AreSinglesOf g.now.lines singles) }
+pub fn singles_of(alloc: Global, lines: &[Line]) -> Result<List<Choice>, AllocError>
+    requires lines { length lines.now ≤ most_lines }
+    ensures { IfOk result (λ singles. AreSinglesOf lines.now singles) }
 {
     let mut singles = List::new(alloc);
-    for (at, line) in g.lines.as_slice().iter().enumerate() {
+    for (at, line) in lines.iter().enumerate() {
         if line.lits.len() == 1 {
             singles.push(Choice {
                 line: at as u32 + 1,
@@ -91,17 +90,45 @@ fn tree_of_shares(
     Ok(tree)
 }
 
+/// A split for the line of an inequality and for that of each equality, and a leaf of these over them.
+fn tree_of_links(
+    alloc: Global,
+    singles: &[Choice],
+    ne: u32,
+    links: &[u32],
+) -> Result<List<Node>, AllocError>
+    requires { length links.now < 4000000000 }
+    ensures { IfOk result (λ tree. tree ≡ splits_of (line_at singles.now ne ∷ lines_of_links singles.now links.now) ++ Node.Leaf (LeafProof.Ptr 1 (links_in_order 1 links.now)) ∷ []) }
+{
+    let mut tree = List::new(alloc);
+    let mut ordered = List::new(alloc);
+    tree.push(Node::Split {
+        line: line_of(singles, ne),
+    })?;
+    for (at, link) in links.iter().enumerate() {
+        tree.push(Node::Split {
+            line: line_of(singles, *link),
+        })?;
+        ordered.push(at as u32 + 2)?;
+    }
+    tree.push(Node::Leaf(LeafProof::Ptr {
+        ne: 1,
+        path: ordered,
+    }))?;
+    Ok(tree)
+}
+
 /// The closed tree of a leaf over the literals of lines of one literal. One that is too long for its numbers is left to
 /// the search.
 fn tree_of(
     alloc: Global,
-    g: &Ground,
+    lines: &[Line],
     singles: &[Choice],
     proof: &LeafProof,
 ) -> Result<Option<List<Node>>, AllocError>
-    requires singles { AreSinglesOf g.now.lines singles.now }
-    requires valid { IsValid (place_lits g.now.lines singles.now) proof.now }
-    ensures { IfOk result (λ closed. IfSome closed (λ tree. IsClosed g.now.lines tree)) }
+    requires singles { AreSinglesOf lines.now singles.now }
+    requires valid { IsValid (place_lits lines.now singles.now) proof.now }
+    ensures { IfOk result (λ closed. IfSome closed (λ tree. IsClosed lines.now tree)) }
 {
     match proof {
         LeafProof::Idx(steps) => {
@@ -116,26 +143,32 @@ fn tree_of(
             }
             Ok(Some(tree_of_shares(alloc, singles, shares.as_slice())?))
         }
-        LeafProof::Ptr { .. } => Ok(None),
+        LeafProof::Ptr { ne, path } => {
+            if path.len() >= 4_000_000_000 {
+                return Ok(None);
+            }
+            Ok(Some(tree_of_links(alloc, singles, *ne, path.as_slice())?))
+        }
     }
 }
 
 /// A closed tree over lines of one literal alone, where they can't all be true and this shows quickly.
 pub fn close_singles(
     alloc: Global,
-    g: &Ground,
+    sorts: &[Sort],
+    lines: &[Line],
     singles: &[Choice],
 ) -> Result<Option<List<Node>>, AllocError>
-    requires built { All (λ line. AreBuilt (sorts g.now.names) line.lits) g.now.lines }
-    requires singles { AreSinglesOf g.now.lines singles.now }
-    requires lines { length g.now.lines ≤ most_lines }
-    ensures { IfOk result (λ closed. IfSome closed (λ tree. IsClosed g.now.lines tree)) }
+    requires fit { All (λ line. AreFit sorts.now line.lits) lines.now }
+    requires singles { AreSinglesOf lines.now singles.now }
+    requires lines { length lines.now ≤ most_lines }
+    ensures { IfOk result (λ closed. IfSome closed (λ tree. IsClosed lines.now tree)) }
 {
-    let lits = lits_of(alloc, g, singles)?;
-    match decide_quickly(alloc, &g.names, lits.as_slice())? {
+    let lits = lits_of(alloc, lines, singles)?;
+    match decide_quickly(alloc, sorts, lits.as_slice())? {
         Quick::Values(_) => Ok(None),
         Quick::Unknown(_) => Ok(None),
-        Quick::Leaf(proof) => tree_of(alloc, g, singles, &proof),
+        Quick::Leaf(proof) => tree_of(alloc, lines, singles, &proof),
     }
 }
 
@@ -176,7 +209,12 @@ pub fn suspects(
                 push_suspect(singles, own, share.lit, &mut lines)?;
             }
         }
-        LeafProof::Ptr { .. } => {}
+        LeafProof::Ptr { ne, path } => {
+            push_suspect(singles, own, *ne, &mut lines)?;
+            for link in path.as_slice() {
+                push_suspect(singles, own, *link, &mut lines)?;
+            }
+        }
     }
     Ok(lines)
 }

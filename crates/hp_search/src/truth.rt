@@ -1,17 +1,17 @@
 //! Whether lines are true at values, and the choice of a line that is false.
-ghost use Rattle.std.specs.Prelude.{◌≡◌, ◌+◌, ◌≤◌, IfOk, IfSome, IsSome, Ok, length, true, false};
+ghost use Rattle.std.specs.Prelude.{◌≡◌, ◌↔◌, ◌+◌, ◌≤◌, IfOk, IfSome, IsSome, Ok, length, true, false};
 ghost use Rattle.std.specs.List.{All};
 ghost use Rattle.hp_math.specs.Rational.{whole};
 ghost use Rattle.hp_tree.specs.Limits.{most_lines};
-ghost use Rattle.hp_lit.specs.Truth.{IdxIsTrue, LineIsTrue, optional_value};
+ghost use Rattle.hp_lit.specs.Truth.{IdxIsTrue, LineIsTrue, PtrIsTrue, optional_value};
 ghost use Rattle.hp_diff.specs.Rows.{IsSmallWhole};
 ghost use Rattle.hp_search.specs.Lines.{AreReadable, HasSmallSides, IsFalseLine, IsReadable, IsSmallIndex, IsWideChoice, Judges, JudgesLine, JudgesLit, Keeps};
 
-use hp_defs::Ground;
 use hp_descent::holds;
-use hp_lit::{Choice, IdxLit, Line, Lit, Name, Valuation};
-use hp_num::Wide;
+use hp_lit::{Choice, IdxLit, Line, Lit, Name, PtrLit, Valuation};
+use hp_num::{Frac, Wide};
 use std::alloc::AllocError;
+use std::cmp::Ordering;
 
 /// What values make of all lines: each is true; this one is false; or the sum of a literal is too wide.
 #[derive(Clone, Copy)]
@@ -92,6 +92,40 @@ fn row_holds(v: &Valuation, row: IdxLit) -> bool
     keeps(row, left, right)
 }
 
+/// The value of a pointer name, 0 for null.
+fn pointer_value(v: &Valuation, name: Option<Name>) -> Frac
+    ensures { result ≡ optional_value v.now.values name }
+{
+    let null = Frac::new(0, 1);
+    match name {
+        None => null,
+        Some(name) => match v.values.as_slice().get(name.0 as usize) {
+            Some(value) => *value,
+            None => null,
+        },
+    }
+}
+
+/// Whether two values are one.
+fn are_same(left: Frac, right: Frac) -> bool
+    ensures { result ≡ true ↔ left ≡ right }
+{
+    match Frac::cmp(left, right) {
+        Ordering::Equal => true,
+        Ordering::Less | Ordering::Greater => false,
+    }
+}
+
+/// Whether a pair of pointers is as its literal says.
+fn pair_holds(v: &Valuation, pair: PtrLit) -> bool
+    ensures yes { result ≡ true → PtrIsTrue v.now.values pair }
+    ensures no { result ≡ false → PtrIsTrue v.now.values pair → ⊥ }
+{
+    let left = pointer_value(v, pair.left);
+    let right = pointer_value(v, pair.right);
+    are_same(left, right) == pair.same
+}
+
 /// Whether a literal is true.
 fn lit_truth(v: &Valuation, lit: &Lit) -> LitTruth
     requires { IsReadable v.now.values lit.now }
@@ -110,7 +144,13 @@ fn lit_truth(v: &Valuation, lit: &Lit) -> LitTruth
             Ok(false) => LitTruth::False,
             Err(wide) => LitTruth::Wide(wide),
         },
-        Lit::Ptr(_) => LitTruth::False,
+        Lit::Ptr(pair) => {
+            if pair_holds(v, *pair) {
+                LitTruth::True
+            } else {
+                LitTruth::False
+            }
+        }
     }
 }
 
@@ -146,15 +186,15 @@ fn line_truth(v: &Valuation, line: &Line) -> Result<LineTruth, AllocError>
 }
 
 /// Whether a line of this number, counted from 1, is there and false.
-fn is_false(g: &Ground, v: &Valuation, number: u32) -> Result<bool, AllocError>
-    requires { All (AreReadable v.now.values) g.now.lines }
-    ensures { result ≡ Ok true → IsFalseLine g.now.lines v.now.values number }
+fn is_false(lines: &[Line], v: &Valuation, number: u32) -> Result<bool, AllocError>
+    requires { All (AreReadable v.now.values) lines.now }
+    ensures { result ≡ Ok true → IsFalseLine lines.now v.now.values number }
 {
     let number = number as usize;
-    if number == 0 || g.lines.len() < number {
+    if number == 0 || lines.len() < number {
         return Ok(false);
     }
-    match line_truth(v, g.lines.get(number - 1))? {
+    match line_truth(v, &lines[number - 1])? {
         LineTruth::False => Ok(true),
         LineTruth::True => Ok(false),
         LineTruth::Wide { .. } => Ok(false),
@@ -162,16 +202,16 @@ fn is_false(g: &Ground, v: &Valuation, number: u32) -> Result<bool, AllocError>
 }
 
 /// The sum of the literal of this choice, where it is too wide.
-pub fn wide_at(g: &Ground, v: &Valuation, choice: Choice) -> Option<Wide>
-    requires { All (AreReadable v.now.values) g.now.lines }
-    ensures { IfSome result (IsWideChoice g.now.lines v.now.values choice) }
+pub fn wide_at(lines: &[Line], v: &Valuation, choice: Choice) -> Option<Wide>
+    requires { All (AreReadable v.now.values) lines.now }
+    ensures { IfSome result (IsWideChoice lines.now v.now.values choice) }
 {
     let line = choice.line as usize;
     let lit = choice.lit as usize;
-    if line == 0 || g.lines.len() < line || lit == 0 {
+    if line == 0 || lines.len() < line || lit == 0 {
         return None;
     }
-    let lits = &g.lines.get(line - 1).lits;
+    let lits = &lines[line - 1].lits;
     if lits.len() < lit {
         return None;
     }
@@ -192,14 +232,14 @@ fn is_shorter(line: &Line, best: Option<Candidate>) -> bool
 }
 
 /// The first of the shortest lines that the values leave false. A sum that is too wide is told only where no line is false.
-fn shortest_false(g: &Ground, v: &Valuation) -> Result<Verdict, AllocError>
-    requires readable { All (AreReadable v.now.values) g.now.lines }
-    requires lines { length g.now.lines ≤ most_lines }
-    ensures { IfOk result (Judges g.now.lines v.now.values) }
+fn shortest_false(lines: &[Line], v: &Valuation) -> Result<Verdict, AllocError>
+    requires readable { All (AreReadable v.now.values) lines.now }
+    requires lines { length lines.now ≤ most_lines }
+    ensures { IfOk result (Judges lines.now v.now.values) }
 {
     let mut best: Option<Candidate> = None;
     let mut wide_sum: Option<WideSum> = None;
-    for (at, line) in g.lines.as_slice().iter().enumerate() {
+    for (at, line) in lines.iter().enumerate() {
         if is_shorter(line, best) {
             let number = at as u32 + 1;
             match line_truth(v, line)? {
@@ -239,15 +279,15 @@ fn verdict_of(best: Option<Candidate>, wide_sum: Option<WideSum>) -> Verdict
 /// A line that the values leave false: one of the suspects where there is such, and else one of the shortest. Where no
 /// line is false, a literal whose sum is too wide, or that every line is true. `Err` where the number of such a literal
 /// in its line has more than 32 bits.
-pub fn first_false(g: &Ground, v: &Valuation, suspects: &[u32]) -> Result<Verdict, AllocError>
-    requires readable { All (AreReadable v.now.values) g.now.lines }
-    requires lines { length g.now.lines ≤ most_lines }
-    ensures { IfOk result (Judges g.now.lines v.now.values) }
+pub fn first_false(lines: &[Line], v: &Valuation, suspects: &[u32]) -> Result<Verdict, AllocError>
+    requires readable { All (AreReadable v.now.values) lines.now }
+    requires lines { length lines.now ≤ most_lines }
+    ensures { IfOk result (Judges lines.now v.now.values) }
 {
     for number in suspects {
-        if is_false(g, v, *number)? {
+        if is_false(lines, v, *number)? {
             return Ok(Verdict::False(*number));
         }
     }
-    shortest_false(g, v)
+    shortest_false(lines, v)
 }

@@ -4,7 +4,7 @@ ghost use Rattle.std.specs.List.{All};
 ghost use Rattle.hp_leaf.specs.Check.{HasNarrowBound};
 
 use hp_farkas::check_num;
-use hp_leaf::{LeafProof, check_leaf, renumber_shares, renumber_steps};
+use hp_leaf::{LeafProof, check_leaf, place_at, renumber_links, renumber_shares, renumber_steps};
 use hp_lit::{IdxLit, Lit, Name, NumLit, Part, PtrLit, Rel, Share, Step};
 use hp_num::{List, Op, Wide};
 use std::alloc::{AllocError, Global};
@@ -230,5 +230,8 @@ fn renumbered_leaves(rt: HostRuntime) -> Result<(), AllocError> {
     let renumbered = renumber_steps(rt.alloc(), &places, taken.as_slice())?;
     let wanted = steps(rt.alloc(), &[5, -2, 0])?;
     assert_eq!(rt; renumbered.as_slice(), wanted.as_slice());
+    let renumbered = renumber_links(rt.alloc(), &places, &[3, 0, 1, 4])?;
+    assert_eq!(rt; renumbered.as_slice(), [9, 0, 2, 0].as_slice());
+    assert_eq!(rt; [place_at(&places, 2), place_at(&places, 4)], [5, 0]);
     Ok(())
 }

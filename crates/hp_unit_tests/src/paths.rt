@@ -1,12 +1,12 @@
 //! What the decisions over one path answer with ample memory, where the answers are known by hand.
 
-use crate::sides::{I, Side, literals, names};
+use crate::sides::{I, SORTS, Side, U, V, W, literals};
 use hp_descent::DescentErr;
 use hp_leaf::LeafProof;
 use hp_lit::{Rel, Valuation};
 use hp_num::List;
 use hp_path::{
-    Decision, Quick, are_built, component_of_last, decide, decide_patiently, decide_quickly,
+    Decision, Quick, are_fit, component_of_last, decide, decide_patiently, decide_quickly,
 };
 use std::alloc::{AllocError, Global};
 use std::test::Fail;
@@ -44,7 +44,8 @@ pub fn push_values(numbers: &mut List<i128>, values: &Valuation) -> Result<(), A
     Ok(())
 }
 
-/// The number of each literal that is taken, with its multiplier or, in a cycle, 0.
+/// The number of each literal that is taken, with its multiplier; in a cycle, or a conflict of pointers, whose inequality
+/// stands first, with 0.
 fn push_leaf(numbers: &mut List<i128>, proof: &LeafProof) -> Result<(), AllocError> {
     match proof {
         LeafProof::Num(shares) => {
@@ -59,7 +60,14 @@ fn push_leaf(numbers: &mut List<i128>, proof: &LeafProof) -> Result<(), AllocErr
                 numbers.push(0)?;
             }
         }
-        LeafProof::Ptr { .. } => {}
+        LeafProof::Ptr { ne, path } => {
+            numbers.push(i128::from(*ne))?;
+            numbers.push(0)?;
+            for link in path.as_slice() {
+                numbers.push(i128::from(*link))?;
+                numbers.push(0)?;
+            }
+        }
     }
     Ok(())
 }
@@ -117,27 +125,28 @@ fn asked(
     sides: &[Side],
     numbers: &mut List<i128>,
 ) -> Result<Kind, AllocError> {
-    let names = names(alloc)?;
     let lits = literals(alloc, sides)?;
-    if lits.len() > 100_000 || !are_built(&names, lits.as_slice()) {
+    if lits.len() > 100_000 || !are_fit(&SORTS, lits.as_slice()) {
         return Ok(Kind::Unasked);
     }
     match call {
-        Call::Exactly => push_decision(numbers, &decide(alloc, &names, lits.as_slice())),
-        Call::Quickly => push_quick(numbers, &decide_quickly(alloc, &names, lits.as_slice())?),
-        Call::Patiently => push_quick(numbers, &decide_patiently(alloc, &names, lits.as_slice())?),
+        Call::Exactly => push_decision(numbers, &decide(alloc, &SORTS, lits.as_slice())),
+        Call::Quickly => push_quick(numbers, &decide_quickly(alloc, &SORTS, lits.as_slice())?),
+        Call::Patiently => push_quick(numbers, &decide_patiently(alloc, &SORTS, lits.as_slice())?),
         Call::ComponentOfLast => {
-            let places = component_of_last(alloc, &names, lits.as_slice())?;
+            let places = component_of_last(alloc, &SORTS, lits.as_slice())?;
             push_places(numbers, places.as_slice())?;
             Ok(Kind::Component)
         }
     }
 }
 
-/// i = 5, c = 3 and 2d = 1.
-const POINT: [Side; 3] = [
+/// i = 5, c = 3, 2d = 1, u = w and v != u.
+const POINT: [Side; 5] = [
     Side::Num(Rel::Eq, 0, 2, 1),
+    Side::Same(U, W),
     Side::Idx(true, I, None, 5),
+    Side::Apart(V, U),
     Side::Num(Rel::Eq, 1, 0, 3),
 ];
 
@@ -175,9 +184,37 @@ const ABOVE: Side = Side::Third(Rel::Lt, -1, 0);
 /// What is asked of literals, the kind of the answer, and its numbers.
 type Case = (Call, &'static [Side], Kind, &'static [i128]);
 
-const VALUES: &[i128] = &[5, 1, 0, 1, 3, 1, 1, 2, 0, 1];
+const VALUES: &[i128] = &[5, 1, 0, 1, 3, 1, 1, 2, 0, 1, 1, 1, 2, 1, 1, 1];
 
-const CASES: [Case; 19] = [
+/// u = v and u != v, alone and behind others, where the equality leads over w.
+const SPLIT: [Side; 2] = [Side::Same(U, V), Side::Apart(U, V)];
+
+const SPLIT_OVER: [Side; 6] = [
+    UNDER,
+    Side::Same(V, W),
+    BELOW,
+    Side::Apart(U, V),
+    ABOVE,
+    Side::Same(W, U),
+];
+
+const CASES: [Case; 25] = [
+    (Call::Exactly, &SPLIT, Kind::Leaf, &[2, 0, 1, 0]),
+    (Call::Quickly, &SPLIT, Kind::Leaf, &[2, 0, 1, 0]),
+    (Call::Exactly, &[Side::Apart(U, U)], Kind::Leaf, &[1, 0]),
+    (Call::Exactly, &SPLIT_OVER, Kind::Leaf, &[4, 0, 6, 0, 2, 0]),
+    (
+        Call::Patiently,
+        &SPLIT_OVER,
+        Kind::Leaf,
+        &[4, 0, 6, 0, 2, 0],
+    ),
+    (
+        Call::ComponentOfLast,
+        &[SMALL_C, Side::Apart(U, V), SMALL_D, SUM],
+        Kind::Component,
+        &[1, 3, 4],
+    ),
     (Call::Exactly, &POINT, Kind::Values, VALUES),
     (Call::Quickly, &POINT, Kind::Values, VALUES),
     (Call::Patiently, &POINT, Kind::Values, VALUES),

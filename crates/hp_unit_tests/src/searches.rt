@@ -1,28 +1,27 @@
 //! What lines of literals are answered with ample memory, where the answers are known by hand.
 ghost use Rattle.std.specs.Prelude.{◌≡◌, true};
 ghost use Rattle.std.specs.List.{All};
-ghost use Rattle.hp_defs.specs.Names.{sorts};
-ghost use Rattle.hp_search.specs.Lines.{AreBuilt};
+ghost use Rattle.hp_search.specs.Lines.{AreFit};
 
 use crate::paths::push_values;
-use crate::sides::{I, Side, literals, names};
-use hp_defs::{Ground, Names};
-use hp_descent::{At, Form, Place, Strain};
+use crate::sides::{I, SORTS, Side, U, V, W, literals};
+use hp_descent::{At, Form, Place, Solution, Strain};
 use hp_lit::{Choice, Line, Origin, Rel};
 use hp_num::List;
-use hp_path::are_built;
-use hp_search::{Found, SearchErr, Solution, search};
+use hp_path::are_fit;
+use hp_search::{Found, SearchErr, search};
+use hp_tree::Sort;
 use std::alloc::{AllocError, Global};
 use std::test::Fail;
 
 /// 2^100, whose square passes 128 bits.
 const LONG: i128 = 1_267_650_600_228_229_401_496_703_205_376;
 
-fn are_lines(names: &Names, lines: &[Line]) -> bool
-    ensures { result ≡ true → All (λ line. AreBuilt (sorts names.now) line.lits) lines.now }
+fn are_lines(sorts: &[Sort], lines: &[Line]) -> bool
+    ensures { result ≡ true → All (λ line. AreFit sorts.now line.lits) lines.now }
 {
     for line in lines {
-        if !are_built(names, line.lits.as_slice()) {
+        if !are_fit(sorts, line.lits.as_slice()) {
             return false;
         }
     }
@@ -30,26 +29,28 @@ fn are_lines(names: &Names, lines: &[Line]) -> bool
 }
 
 /// A line for each list of literals.
-fn problem(alloc: Global, lines: &[&[Side]]) -> Result<Ground, AllocError> {
-    let mut g = Ground {
-        names: names(alloc)?,
-        lines: List::new(alloc),
-    };
-    for sides in lines {
-        g.lines.push(Line {
-            lits: literals(alloc, sides)?,
+fn problem(alloc: Global, sides: &[&[Side]]) -> Result<List<Line>, AllocError> {
+    let mut lines = List::new(alloc);
+    for line in sides {
+        lines.push(Line {
+            lits: literals(alloc, line)?,
             origin: Origin::Ground { clause: 1 },
         })?;
     }
-    Ok(g)
+    Ok(lines)
 }
 
 /// What is answered, or nothing where the problem isn't one to ask.
-fn found(alloc: Global, g: &Ground, most: u64, exact: bool) -> Option<Result<Found, SearchErr>> {
-    if most == 0 || g.lines.len() > 50_000 || !are_lines(&g.names, g.lines.as_slice()) {
+fn found(
+    alloc: Global,
+    lines: &[Line],
+    most: u64,
+    exact: bool,
+) -> Option<Result<Found, SearchErr>> {
+    if most == 0 || lines.len() > 50_000 || !are_lines(&SORTS, lines) {
         return None;
     }
-    Some(search(alloc, g, most, exact))
+    Some(search(alloc, &SORTS, lines, most, exact))
 }
 
 /// What was answered, with the number of nodes of a tree.
@@ -85,8 +86,42 @@ const BELOW: Side = Side::Num(Rel::Lt, 1, -1, 0);
 
 const ABOVE: Side = Side::Num(Rel::Le, -1, 1, 0);
 
+/// `u = v`, `u != v`, `v = w` and `u != null`.
+const SAME: Side = Side::Same(U, V);
+
+const APART: Side = Side::Apart(U, V);
+
+const NEXT: Side = Side::Same(V, W);
+
+const SOME: Side = Side::Apart(U, None);
+
 /// Lines, the limit of nodes, whether values are to be exact, and the answer.
-const SEARCHES: [(&[&[Side]], u64, bool, Answer); 10] = [
+const SEARCHES: [(&[&[Side]], u64, bool, Answer); 15] = [
+    (&[&[APART, SAME], &[SOME, FIVE]], 9, false, Answer::Model),
+    (
+        &[&[APART, LOW], &[SAME], &[FIVE]],
+        9,
+        false,
+        Answer::Closed(5),
+    ),
+    (
+        &[&[SAME], &[NEXT], &[Side::Apart(U, W)]],
+        9,
+        false,
+        Answer::Closed(4),
+    ),
+    (
+        &[&[SAME, LOW], &[APART, BELOW], &[FIVE, SOME]],
+        30,
+        true,
+        Answer::Model,
+    ),
+    (
+        &[&[SAME, NEXT], &[APART], &[Side::Apart(W, V)]],
+        9,
+        false,
+        Answer::Closed(5),
+    ),
     (&[], 1, false, Answer::Model),
     (&[&[]], 1, true, Answer::Closed(1)),
     (&[&[THREE], &[]], 1, false, Answer::Closed(1)),
@@ -106,9 +141,9 @@ const SEARCHES: [(&[&[Side]], u64, bool, Answer); 10] = [
 
 #[test]
 fn searches(rt: HostRuntime) -> Result<(), Fail> {
-    for (lines, most, exact, wanted) in SEARCHES {
-        let g = problem(rt.alloc(), lines)?;
-        let answer = answer_of(found(rt.alloc(), &g, most, exact));
+    for (sides, most, exact, wanted) in SEARCHES {
+        let lines = problem(rt.alloc(), sides)?;
+        let answer = answer_of(found(rt.alloc(), lines.as_slice(), most, exact));
         assert_eq!(rt; answer, wanted);
     }
     Ok(())
@@ -133,12 +168,12 @@ fn numbers_of(alloc: Global, solution: &Solution) -> Result<List<i128>, AllocErr
 #[test]
 fn an_exact_model_has_its_chain(rt: HostRuntime) -> Result<(), Fail> {
     // c - d < 0 is false at 0, and is split: path 1.1, chain 2 and 1, c = -1 and the others 0
-    let g = problem(rt.alloc(), &[&[BELOW]])?;
-    let found = found(rt.alloc(), &g, 10, true);
+    let lines = problem(rt.alloc(), &[&[BELOW]])?;
+    let found = found(rt.alloc(), lines.as_slice(), 10, true);
     match &found {
         Some(Ok(Found::Model(solution))) => {
             let numbers = numbers_of(rt.alloc(), solution)?;
-            let wanted = [1, 1, 2, 1, 0, 1, 0, 1, -1, 1, 0, 1, 0, 1];
+            let wanted = [1, 1, 2, 1, 0, 1, 0, 1, -1, 1, 0, 1, 0, 1, 0, 1, 0, 1, 0, 1];
             assert_eq!(rt; numbers.as_slice(), wanted.as_slice());
         }
         _ => assert!(rt; false),
@@ -160,8 +195,8 @@ fn a_sum_that_is_too_wide(rt: HostRuntime) -> Result<(), Fail> {
     // c = 2^100 makes the first line true, and there -2^100 c passes 128 bits
     let high = Side::Num(Rel::Eq, 1, 0, LONG);
     let product = Side::Num(Rel::Lt, -LONG, 0, 0);
-    let g = problem(rt.alloc(), &[&[high], &[product]])?;
-    let found = found(rt.alloc(), &g, 10, true);
+    let lines = problem(rt.alloc(), &[&[high], &[product]])?;
+    let found = found(rt.alloc(), lines.as_slice(), 10, true);
     match &found {
         Some(Err(SearchErr::Strain(strain))) => assert!(rt; is_strain_of_sum(strain)),
         _ => assert!(rt; false),

@@ -1,18 +1,20 @@
-//! Literals over two whole numbers i and j and three fractions c, d and e, from short descriptions.
+//! Literals over two whole numbers i and j, three fractions c, d and e and three pointers u, v and w, from short
+//! descriptions.
 
-use hp_defs::Names;
-use hp_lit::{IdxLit, Lit, Name, NumLit, Part, Rel};
-use hp_num::{List, Text};
+use hp_lit::{IdxLit, Lit, Name, NumLit, Part, PtrLit, Rel};
+use hp_num::List;
 use hp_tree::Sort;
 use std::alloc::{AllocError, Global};
 
 /// A literal over whole numbers (whether it is an equality, a name less another, and a bound), one over the fractions c
-/// and d (a relation, their coefficients, and a bound), or one over e.
+/// and d (a relation, their coefficients, and a bound), one over e, or one over pointers (two that are the same, or not).
 #[derive(Clone, Copy)]
 pub enum Side {
     Idx(bool, Option<Name>, Option<Name>, i128),
     Num(Rel, i128, i128, i128),
     Third(Rel, i128, i128),
+    Same(Option<Name>, Option<Name>),
+    Apart(Option<Name>, Option<Name>),
 }
 
 pub const I: Option<Name> = Some(Name(0));
@@ -24,16 +26,24 @@ const D: u32 = 3;
 
 const E: u32 = 4;
 
-/// i and j of sort idx, and c, d and e of sort num.
-pub fn names(alloc: Global) -> Result<Names, AllocError> {
-    let mut names = Names::new(alloc);
-    names.add_constant(Text::from_slice(alloc, b"i")?, Sort::Idx)?;
-    names.add_constant(Text::from_slice(alloc, b"j")?, Sort::Idx)?;
-    names.add_constant(Text::from_slice(alloc, b"c")?, Sort::Num)?;
-    names.add_constant(Text::from_slice(alloc, b"d")?, Sort::Num)?;
-    names.add_constant(Text::from_slice(alloc, b"e")?, Sort::Num)?;
-    Ok(names)
-}
+/// The names of sort ptr, which follow c, d and e.
+pub const U: Option<Name> = Some(Name(5));
+
+pub const V: Option<Name> = Some(Name(6));
+
+pub const W: Option<Name> = Some(Name(7));
+
+/// The sorts of i and j, of c, d and e, and of u, v and w.
+pub const SORTS: [Sort; 8] = [
+    Sort::Idx,
+    Sort::Idx,
+    Sort::Num,
+    Sort::Num,
+    Sort::Num,
+    Sort::Ptr,
+    Sort::Ptr,
+    Sort::Ptr,
+];
 
 /// A part, where the coefficient isn't 0.
 fn push_part(parts: &mut List<Part>, name: u32, coef: i128) -> Result<(), AllocError> {
@@ -64,6 +74,16 @@ fn literal(alloc: Global, side: Side) -> Result<Lit, AllocError> {
             push_part(&mut parts, E, e)?;
             Ok(Lit::Num(NumLit { rel, parts, bound }))
         }
+        Side::Same(left, right) => Ok(Lit::Ptr(PtrLit {
+            same: true,
+            left,
+            right,
+        })),
+        Side::Apart(left, right) => Ok(Lit::Ptr(PtrLit {
+            same: false,
+            left,
+            right,
+        })),
     }
 }
 

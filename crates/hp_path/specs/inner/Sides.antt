@@ -10,6 +10,10 @@ use Rattle.hp_lit.specs.Cycle.{IsValidIdx}
 use Rattle.hp_diff.specs.declared.answer.DiffAnswer.{DiffAnswer}
 use Rattle.hp_diff.specs.declared.answer.DiffAnswer.TheVariants as diff
 use Rattle.hp_diff.specs.Rows.{IsPoint}
+use Rattle.hp_lit.specs.Pointers.{IsValidPtr}
+use Rattle.hp_ptreq.specs.declared.answer.PtrAnswer.{PtrAnswer}
+use Rattle.hp_ptreq.specs.declared.answer.PtrAnswer.TheVariants as ptr
+use Rattle.hp_ptreq.specs.Rows.{ArePointers}
 use Rattle.hp_descent.specs.Answers.{IsSolution}
 use Rattle.hp_simplex.specs.declared.checks.Attempt.{Attempt}
 use Rattle.hp_simplex.specs.declared.checks.Attempt.TheVariants as attempt
@@ -19,9 +23,14 @@ use Rattle.hp_path.specs.declared.components.Pace.{Pace}
 use Rattle.hp_path.specs.declared.components.Side.{Side}
 use Rattle.hp_path.specs.declared.components.Side.TheVariants as side
 use Rattle.hp_path.specs.declared.parting.Parts.{Parts}
-use Rattle.hp_path.specs.Kinds.{idx_lits}
+use Rattle.hp_path.specs.Kinds.{idx_lits, ptr_lits}
 use Rattle.hp_path.specs.Placed.{AreSolving}
 use Rattle.hp_path.specs.Components.{AreGivenUp, IsGivenUp, has_label, label_at, places_with}
+
+-- of the literals over pointers
+abbrev pub DecidesPairs : List Lit → PtrAnswer → Type 0
+DecidesPairs lits (ptr.Classes values) = ArePointers (ptr_lits lits) values
+DecidesPairs lits (ptr.Conflict ne links) = IsValidPtr lits ne links
 
 -- of the literals over whole numbers
 abbrev pub DecidesRows : List Lit → DiffAnswer → Type 0

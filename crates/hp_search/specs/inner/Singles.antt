@@ -25,7 +25,7 @@ pub record AreSinglesOf (lines : List Line) (singles : List Choice) : Type 0 whe
 abbrev pub IsLeafWithin : ℕ → LeafProof → Type 0
 IsLeafWithin count (Num shares) = All (λ s. s.lit ≤ count) shares
 IsLeafWithin count (Idx steps) = All (λ s. s.lit ≤ count) steps
-IsLeafWithin count (Ptr ne path) = ⊥
+IsLeafWithin count (Ptr ne links) = (ne ≤ count) × All (λ link. link ≤ count) links
 
 -- ---- the tree that closes lines of one literal
 abbrev pub line_in : Option Choice → ℕ
@@ -42,6 +42,9 @@ lines_of_steps singles steps = map (λ s. line_at singles s.lit) steps
 abbrev pub lines_of_shares : List Choice → List Share → List ℕ
 lines_of_shares singles shares = map (λ s. line_at singles s.lit) shares
 
+abbrev pub lines_of_links : List Choice → List ℕ → List ℕ
+lines_of_links singles links = map (line_at singles) links
+
 abbrev pub splits_of : List ℕ → List Node
 splits_of lines = map Split lines
 
@@ -54,3 +57,8 @@ steps_in_order n (s ∷ ss) = record { lit = suc n; forward = s.forward } ∷ st
 abbrev pub shares_in_order : ℕ → List Share → List Share
 shares_in_order n [] = []
 shares_in_order n (s ∷ ss) = record { lit = suc n; times = s.times } ∷ shares_in_order (suc n) ss
+
+-- as many equalities, over literals in their order
+abbrev pub links_in_order : ℕ → List ℕ → List ℕ
+links_in_order n [] = []
+links_in_order n (l ∷ ls) = suc n ∷ links_in_order (suc n) ls

@@ -1,29 +1,33 @@
-use Rattle.std.proofs.Common.{◌≡◌, ◌<◌, sym, ◌∙◌, ap, length, subst, get_or, ◌++◌, ◌∷◌, []}
-use Rattle.hp_path.specs.Components.{first_label}
-use Rattle.hp_path.proofs.Gathering.{has_place, nums_with, nums_without, places_more, places_without}
+use Rattle.std.proofs.Common.{◌<◌, ◌++◌, ◌∷◌, [], ◌∙◌, ap, arith, length, subst}
+use Rattle.hp_path.proofs.Chained.{gathered_begin, gathered_step}
+use Rattle.hp_path.proofs.Gathering.{nums_end, places_end}
 use Rattle.hp_path.proofs.components.component_of.Goals as goal
-use Rattle.hp_path.proofs.components.component_of.Goals.{then-first_label-label+in_ok-copy+in_ok-push+in_ok-push-2, else-first_label-label}
 
-pub loop-at-preserved : goal.loop-at-preserved
-loop-at-preserved c =
-    let labels = c.args.labels.now in
+pub chain-init : goal.chain-init
+chain-init c =
+    let l = c.args.labelled.now in
+    gathered_begin l.labels c.args.label c.args.parts.now.nums c.args.parts.now.num_places c.requires.places l.chains.firsts _ _ _ c.get-at.ensures (c.requires.labelled.chained.first c.args.label c.requires.label) c.new-nums.ensures c.new-places.ensures
+
+pub chain-smaller : goal.chain-smaller
+chain-smaller c =
+    let l = c.args.labelled.now in
     let nums = c.args.parts.now.nums in
-    let places = c.args.parts.now.num_places in
-    let i = c.loop-at.at in
-    let x = c.get-lit.result.now in
-    let own = ap (first_label labels) (sym c.as_slice.ensures) in
-    let l : i < length places = subst (λ n. i < n) (c.len-at-end.ensures ∙ sym c.requires.places) c.loop-at-test.true in
-    elim c.if-first_label-label.branch [
-      | then-first_label-label+in_ok-copy+in_ok-push+in_ok-push-2 w ↦
-          let e : first_label labels x.parts ≡ c.args.label = own ∙ sym c.first_label.ensures ∙ w.if-first_label-label.true in
-          record {
-            nums = nums_with labels c.args.label nums places i x 0 c.get-lit.ensures c.loop-at.nums c.if-first_label-label.nums e (w.nums-is ∙ w.in_ok-push.ensures.ok ∙ ap (λ y. c.loop-at.nums ++ y ∷ []) w.in_ok-copy.ensures) c.loop-at.invariant.nums;
-            places = places_more labels c.args.label nums places i x w.get.result.now c.get-lit.ensures c.loop-at.places c.if-first_label-label.places w.get.ensures e (w.places-is ∙ w.in_ok-push-2.ensures.ok) c.loop-at.invariant.places;
-          }
-      | else-first_label-label w ↦
-          let n = λ (e : first_label labels x.parts ≡ c.args.label). w.if-first_label-label.false (c.first_label.ensures ∙ sym own ∙ e) in
-          record {
-            nums = nums_without labels c.args.label nums places i x 0 c.get-lit.ensures c.loop-at.nums c.if-first_label-label.nums w.nums-is n c.loop-at.invariant.nums;
-            places = places_without labels c.args.label nums places i x (get_or places i 0) c.get-lit.ensures c.loop-at.places c.if-first_label-label.places w.places-is (has_place places i l) n c.loop-at.invariant.places;
-          }
-    ]
+    let b : c.chain.at < length nums = subst (λ n. c.chain.at < n) c.len.ensures c.chain-test.true in
+    (gathered_step l.labels c.args.label nums c.args.parts.now.num_places c.requires.places l.chains.nexts c.chain.at _ _ _ c.chain.nums _ c.chain.places _ b c.get.ensures c.get-in-chain.ensures
+    (c.in_ok-push.ensures.ok ∙ ap (λ x. c.chain.nums ++ x ∷ []) c.in_ok-copy.ensures) c.in_ok-push-2.ensures.ok c.get-at-in-chain.ensures c.requires.labelled.chained.next c.chain.invariant).1
+
+pub chain-preserved : goal.chain-preserved
+chain-preserved c =
+    let l = c.args.labelled.now in
+    let nums = c.args.parts.now.nums in
+    let b : c.chain.at < length nums = subst (λ n. c.chain.at < n) c.len.ensures c.chain-test.true in
+    (gathered_step l.labels c.args.label nums c.args.parts.now.num_places c.requires.places l.chains.nexts c.chain.at _ _ _ c.chain.nums _ c.chain.places _ b c.get.ensures c.get-in-chain.ensures
+    (c.in_ok-push.ensures.ok ∙ ap (λ x. c.chain.nums ++ x ∷ []) c.in_ok-copy.ensures) c.in_ok-push-2.ensures.ok c.get-at-in-chain.ensures c.requires.labelled.chained.next c.chain.invariant).0
+
+pub returns-clause-nums : goal.returns-clause-nums
+returns-clause-nums c =
+    nums_end c.args.labelled.now.labels c.args.label c.args.parts.now.nums c.chain.nums c.chain.at (omega arith) c.chain.invariant.nums
+
+pub returns-clause-places : goal.returns-clause-places
+returns-clause-places c =
+    places_end c.args.labelled.now.labels c.args.label c.args.parts.now.nums c.args.parts.now.num_places c.chain.places c.chain.at (omega arith) c.chain.invariant.places

@@ -1,6 +1,5 @@
-use Rattle.std.proofs.Common.{◌≡◌, ◌≤◌, ◌<◌, ◌+◌, ◌++◌, sym, ◌∙◌, ap, subst, arith, length, get_or, true, false, set, replicate}
+use Rattle.std.proofs.Common.{◌≡◌, ◌≤◌, ◌<◌, ◌+◌, ◌++◌, sym, ◌∙◌, ap, subst, arith, length, get_or, false, replicate}
 use Rattle.std.proofs.lemmas.List.{nil_from_length}
-use Rattle.hp_defs.specs.Names.{sorts}
 use Rattle.hp_lit.specs.declared.literal.NumLit.{NumLit}
 use Rattle.hp_lit.specs.declared.valuation.NameValue.{NameValue}
 use Rattle.std.specs.List.{All, filter}
@@ -13,17 +12,26 @@ use Rattle.hp_path.proofs.components.decide_apart.Goals.{then-not-get+in_ok-more
 
 pub get-requires : goal.get-requires
 get-requires c =
-    let labels = c.args.labels.now in
+    let labels = c.args.labelled.now.labels in
     let nums = c.args.parts.now.nums in
     let at : c.lit-item.result ≡ get_or nums c.loop-lit.lit-index c.lit-item.result = c.lit-item.is ∙ ap (λ ls. get_or ls c.loop-lit.lit-index c.lit-item.result) c.as_slice-lit-items.ensures in
     let l : c.loop-lit.lit-index < length nums = subst (λ ls. c.loop-lit.lit-index < length ls) c.as_slice-lit-items.ensures c.loop-lit-test.true in
     let e = c.first_label-label.ensures ∙ ap (first_label labels) c.as_slice.ensures in
-    omega (arith, label_small labels nums c.lit-item.result c.loop-lit.lit-index c.requires.labels l at, e, c.loop-lit.invariant.count)
+    omega (arith, label_small labels nums c.lit-item.result c.loop-lit.lit-index c.requires.labelled.labels l at, e, c.loop-lit.invariant.count)
+
+pub decide_component-requires-clause-label : goal.decide_component-requires-clause-label
+decide_component-requires-clause-label c =
+    let labels = c.args.labelled.now.labels in
+    let nums = c.args.parts.now.nums in
+    let at : c.lit-item.result ≡ get_or nums c.loop-lit.lit-index c.lit-item.result = c.lit-item.is ∙ ap (λ ls. get_or ls c.loop-lit.lit-index c.lit-item.result) c.as_slice-lit-items.ensures in
+    let l : c.loop-lit.lit-index < length nums = subst (λ ls. c.loop-lit.lit-index < length ls) c.as_slice-lit-items.ensures c.loop-lit-test.true in
+    let e = c.first_label-label.ensures ∙ ap (first_label labels) c.as_slice.ensures in
+    omega (arith, label_small labels nums c.lit-item.result c.loop-lit.lit-index c.requires.labelled.labels l at, e)
 
 pub loop-lit-init : goal.loop-lit-init
 loop-lit-init c =
-    let ss = sorts c.args.names.now in
-    let labels = c.args.labels.now in
+    let ss = c.args.sorts.now in
+    let labels = c.args.labelled.now.labels in
     let nums = c.args.parts.now.nums in
     let places = c.args.parts.now.num_places in
     let e = c.in_ok-done.ensures ∙ ap (λ n. replicate (n + 1) false) c.len.ensures in
@@ -31,9 +39,9 @@ loop-lit-init c =
 
 pub loop-lit-preserved : goal.loop-lit-preserved
 loop-lit-preserved c =
-    let ss = sorts c.args.names.now in
+    let ss = c.args.sorts.now in
     let p = c.args.pace in
-    let labels = c.args.labels.now in
+    let labels = c.args.labelled.now.labels in
     let nums = c.args.parts.now.nums in
     let places = c.args.parts.now.num_places in
     let i = c.loop-lit.lit-index in
@@ -43,7 +51,7 @@ loop-lit-preserved c =
     let l : i < length nums = subst (λ ls. i < length ls) c.as_slice-lit-items.ensures c.loop-lit-test.true in
     let own : label ≡ first_label labels lit.parts = c.first_label-label.ensures ∙ ap (first_label labels) c.as_slice.ensures in
     let e : label ≡ first_label labels (get_or nums i lit).parts = own ∙ ap (λ (x : NumLit). first_label labels x.parts) at in
-    let below : label < length c.loop-lit.done = omega (arith, label_small labels nums lit i c.requires.labels l at, own, c.loop-lit.invariant.count) in
+    let below : label < length c.loop-lit.done = omega (arith, label_small labels nums lit i c.requires.labelled.labels l at, own, c.loop-lit.invariant.count) in
     let read : is_done c.loop-lit.done label ≡ c.get.result.now = done_read c.loop-lit.done label c.get.result.now c.get.ensures in
     elim c.if-not-get.branch [
       | then-not-get+in_ok-more+in-Point+in_ok-push_values-in-Point w ↦
@@ -56,7 +64,7 @@ loop-lit-preserved c =
           let here = subst (DecidesPart ss p c.args.lits.now c.args.parts.now labels label) w.in-Unknown.is w.in_ok-more.ensures.decided in
           settled_unknown ss p labels nums places i lit c.loop-lit.done c.if-not-get.done c.loop-lit.values c.if-not-get.values c.loop-lit.unknown c.if-not-get.unknown w.in-Unknown.places label
           c.loop-lit.invariant (w.done-is ∙ w.set.ensures) (w.unknown-is ∙ w.in_ok-push-in-Unknown.ensures.ok)
-          (record { labels = labels; label = label; are = c.requires.labels; is = here.0; given_up = here.1 })
+          (record { labels = labels; label = label; are = c.requires.labelled.labels; is = here.0; given_up = here.1 })
       | else-not-get w ↦
           settled_past ss p labels nums places i lit c.loop-lit.done c.if-not-get.done c.loop-lit.values c.if-not-get.values c.loop-lit.unknown c.if-not-get.unknown l c.loop-lit.invariant
           (ap (is_done c.loop-lit.done) (sym e) ∙ read ∙ w.if-not-get.false) w.done-is w.values-is w.unknown-is
@@ -67,4 +75,4 @@ returns-then-len-eq0 c =
     let nums = c.args.parts.now.nums in
     let n = ap length c.as_slice-lit-items.ensures in
     let end : length nums ≤ c.loop-lit.lit-index = omega (arith, n, c.loop-lit-test.false) in
-    solved_all (sorts c.args.names.now) c.args.labels.now nums c.loop-lit.lit-index c.loop-lit.done c.loop-lit.values end (c.loop-lit.invariant.solved (nil_from_length c.loop-lit.unknown (omega arith)))
+    solved_all c.args.sorts.now c.args.labelled.now.labels nums c.loop-lit.lit-index c.loop-lit.done c.loop-lit.values end (c.loop-lit.invariant.solved (nil_from_length c.loop-lit.unknown (omega arith)))

@@ -1,7 +1,6 @@
 use Rattle.std.proofs.Common.{sym, ◌∙◌, subst, map, arith}
 use Rattle.std.specs.List.{filter}
 use Rattle.std.proofs.lemmas.List.Elements.{All-filter}
-use Rattle.hp_defs.specs.Names.{sorts}
 use Rattle.hp_lit.specs.declared.literal.Lit.TheVariants.{Num}
 use Rattle.hp_lit.specs.Leaf.{IsValidNum}
 use Rattle.hp_descent.specs.Answers.{IsSolution}
@@ -20,16 +19,16 @@ component_of-requires-clause-places c = same_count c.args.lits.now c.args.parts.
 
 pub answer_at-requires : goal.answer_at-requires
 answer_at-requires c =
-    let ss = sorts c.args.names.now in
-    let t = has_label c.args.labels.now c.args.label in
+    let ss = c.args.sorts.now in
+    let t = has_label c.args.labelled.now.labels c.args.label in
     let nums = c.args.parts.now.nums in
     subst AreNumFit (sym (c.as_slice.ensures ∙ c.in_ok-component.ensures.nums))
     (fit_over ss (filter t nums) (All-filter t (IsNumOver ss) nums c.requires.over) (omega (arith, fewer_with t nums, c.requires.few)))
 
 pub returns-in-Point-clause-decided : goal.returns-in-Point-clause-decided
 returns-in-Point-clause-decided c =
-    let ss = sorts c.args.names.now in
-    let t = has_label c.args.labels.now c.args.label in
+    let ss = c.args.sorts.now in
+    let t = has_label c.args.labelled.now.labels c.args.label in
     let nums = c.args.parts.now.nums in
     let h : IsSolution c.as_slice.result.now c.in-Point.values = subst (Tells c.args.pace c.as_slice.result.now) c.in-Point.is c.in_ok-values.ensures in
     solving ss (filter t nums) c.in-Point.values (All-filter t (IsNumOver ss) nums c.requires.over) (subst (λ ls. IsSolution ls c.in-Point.values) (c.as_slice.ensures ∙ c.in_ok-component.ensures.nums) h)
@@ -37,12 +36,12 @@ returns-in-Point-clause-decided c =
 pub returns-in-Point-clause-names : goal.returns-in-Point-clause-names
 returns-in-Point-clause-names c =
     let h : IsSolution c.as_slice.result.now c.in-Point.values = subst (Tells c.args.pace c.as_slice.result.now) c.in-Point.is c.in_ok-values.ensures in
-    names_with c.args.labels.now c.args.label c.args.parts.now.nums c.in-Point.values c.requires.labels (subst (λ ls. IsSolution ls c.in-Point.values) (c.as_slice.ensures ∙ c.in_ok-component.ensures.nums) h)
+    names_with c.args.labelled.now.labels c.args.label c.args.parts.now.nums c.in-Point.values c.requires.labelled.labels (subst (λ ls. IsSolution ls c.in-Point.values) (c.as_slice.ensures ∙ c.in_ok-component.ensures.nums) h)
 
 pub returns-in_ok-shares-in-Farkas-clause-decided : goal.returns-in_ok-shares-in-Farkas-clause-decided
 returns-in_ok-shares-in-Farkas-clause-decided c =
     let lits = c.args.lits.now in
-    let labels = c.args.labels.now in
+    let labels = c.args.labelled.now.labels in
     let nums = c.args.parts.now.nums in
     let places = c.args.parts.now.num_places in
     let t = has_label labels c.args.label in

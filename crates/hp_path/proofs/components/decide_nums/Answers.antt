@@ -1,19 +1,18 @@
 use Rattle.std.proofs.Common.{sym, ◌∙◌, ap, subst, map, arith, length}
 use Rattle.std.specs.List.{All}
-use Rattle.hp_defs.specs.Names.{sorts}
 use Rattle.hp_lit.specs.declared.literal.Lit.TheVariants.{Num}
 use Rattle.hp_leaf.specs.Renumbered.{Stands}
 use Rattle.hp_lit.specs.Fit.{IsNumOver}
 use Rattle.hp_path.specs.Kinds.{num_lits}
-use Rattle.hp_path.proofs.Mixed.{fewer_nums, nums_built}
+use Rattle.hp_path.proofs.Mixed.{fewer_nums, nums_fit}
 use Rattle.hp_path.proofs.Splitting.{nums_stand}
 use Rattle.hp_path.proofs.components.decide_nums.Goals as goal
 
-pub labels_of-requires : goal.labels_of-requires
-labels_of-requires c = subst (All (IsNumOver (sorts c.args.names.now))) (sym (c.as_slice.ensures ∙ c.requires.parts.nums)) (nums_built (sorts c.args.names.now) c.args.lits.now c.requires.built)
+pub with_labels-requires : goal.with_labels-requires
+with_labels-requires c = subst (All (IsNumOver c.args.sorts.now)) (sym (c.as_slice.ensures ∙ c.requires.parts.nums)) (nums_fit c.args.sorts.now c.args.lits.now c.requires.fit)
 
 pub decide_apart-requires-clause-over : goal.decide_apart-requires-clause-over
-decide_apart-requires-clause-over c = subst (All (IsNumOver (sorts c.args.names.now))) (sym c.requires.parts.nums) (nums_built (sorts c.args.names.now) c.args.lits.now c.requires.built)
+decide_apart-requires-clause-over c = subst (All (IsNumOver c.args.sorts.now)) (sym c.requires.parts.nums) (nums_fit c.args.sorts.now c.args.lits.now c.requires.fit)
 
 pub decide_apart-requires-clause-few : goal.decide_apart-requires-clause-few
 decide_apart-requires-clause-few c =

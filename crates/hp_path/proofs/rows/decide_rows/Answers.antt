@@ -1,6 +1,5 @@
 use Rattle.std.proofs.Common.{sym, ◌∙◌, ap, subst, arith, length, map}
 use Rattle.std.specs.List.{All}
-use Rattle.hp_defs.specs.Names.{sorts}
 use Rattle.hp_lit.specs.declared.literal.Lit.TheVariants.{Idx}
 use Rattle.hp_lit.specs.Cycle.{IsValidIdx}
 use Rattle.hp_diff.specs.Rows.{IsDiffAnswer}
@@ -20,7 +19,7 @@ decide-requires-clause-few c =
 
 pub decide-requires-clause-bounds : goal.decide-requires-clause-bounds
 decide-requires-clause-bounds c =
-    subst (All (λ row. IsSmallBound row.bound)) (sym (c.as_slice.ensures ∙ c.requires.parts.rows)) (small_bounds (sorts c.args.names.now) c.args.lits.now c.requires.built)
+    subst (All (λ row. IsSmallBound row.bound)) (sym (c.as_slice.ensures ∙ c.requires.parts.rows)) (small_bounds c.args.sorts.now c.args.lits.now c.requires.fit)
 
 pub returns-in_ok-steps-in-Cycle : goal.returns-in_ok-steps-in-Cycle
 returns-in_ok-steps-in-Cycle c =

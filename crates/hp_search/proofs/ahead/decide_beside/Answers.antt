@@ -1,25 +1,24 @@
 use Rattle.std.proofs.Common.{◌++◌, ◌∙◌, ap, length, refl, subst, sym}
 use Rattle.std.specs.List.{All}
-use Rattle.hp_defs.specs.Names.{sorts}
 use Rattle.hp_leaf.specs.Leaf.{IsValid}
 use Rattle.hp_leaf.specs.Tree.{place_lits}
-use Rattle.hp_lit.specs.Fit.{IsBuilt}
+use Rattle.hp_lit.specs.Fit.{IsFit}
 use Rattle.hp_path.specs.Decided.{AreValuesFor, DecidesPatiently}
 use Rattle.hp_search.proofs.Closing.{first_leaf, first_values}
-use Rattle.hp_search.proofs.Reading.{place_count, places_built}
+use Rattle.hp_search.proofs.Reading.{place_count, places_fit}
 use Rattle.hp_search.proofs.ahead.decide_beside.Goals as goal
 
-pub decide_patiently-requires-clause-built : goal.decide_patiently-requires-clause-built
-decide_patiently-requires-clause-built c =
-    let ss = sorts c.args.g.now.names in
-    let lines = c.args.g.now.lines in
+pub decide_patiently-requires-clause-fit : goal.decide_patiently-requires-clause-fit
+decide_patiently-requires-clause-fit c =
+    let ss = c.args.sorts.now in
+    let lines = c.args.lines.now in
     let all = c.as_slice.ensures ∙ c.in_ok-push_lits.ensures ∙ ap (λ q. q ++ place_lits lines c.args.others.now) c.in_ok-lits.ensures in
-    subst (All (IsBuilt ss)) (sym all) (places_built ss lines c.requires.built c.args.path.now c.args.others.now)
+    subst (All (IsFit ss)) (sym all) (places_fit ss lines c.requires.fit c.args.path.now c.args.others.now)
 
 pub returns-in-Values : goal.returns-in-Values
 returns-in-Values c =
-    let ss = sorts c.args.g.now.names in
-    let lines = c.args.g.now.lines in
+    let ss = c.args.sorts.now in
+    let lines = c.args.lines.now in
     let v = c.in-Values.values.values in
     let all = c.as_slice.ensures ∙ c.in_ok-push_lits.ensures ∙ ap (λ q. q ++ place_lits lines c.args.others.now) c.in_ok-lits.ensures in
     first_values ss (place_lits lines c.args.path.now) (place_lits lines c.args.others.now) v
@@ -27,8 +26,8 @@ returns-in-Values c =
 
 pub returns-then-is_within : goal.returns-then-is_within
 returns-then-is_within c =
-    let ss = sorts c.args.g.now.names in
-    let lines = c.args.g.now.lines in
+    let ss = c.args.sorts.now in
+    let lines = c.args.lines.now in
     let proof = c.in-Leaf.proof in
     let all = c.as_slice.ensures ∙ c.in_ok-push_lits.ensures ∙ ap (λ q. q ++ place_lits lines c.args.others.now) c.in_ok-lits.ensures in
     first_leaf (place_lits lines c.args.path.now) (place_lits lines c.args.others.now) proof (length c.args.path.now) (sym (place_count lines c.args.path.now)) (c.if-is_within.ensures refl)

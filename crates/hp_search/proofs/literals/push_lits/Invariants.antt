@@ -3,4 +3,4 @@ use Rattle.hp_leaf.specs.Tree.{place_lits}
 use Rattle.hp_search.proofs.literals.push_lits.Given as goal
 
 abbrev pub invariant-loop-choice : goal.invariant-loop-choice
-invariant-loop-choice l = l.lits ≡ l.initial.lits ++ place_lits l.g.lines (take l.choice-index l.path)
+invariant-loop-choice l = l.lits ≡ l.initial.lits ++ place_lits l.lines (take l.choice-index l.path)

@@ -1,5 +1,4 @@
 use Rattle.std.proofs.Common.{subst}
-use Rattle.hp_defs.specs.Names.{sorts}
 use Rattle.hp_leaf.specs.Tree.{place_lits}
 use Rattle.hp_search.specs.Search.{FindsAhead}
 use Rattle.hp_search.proofs.Reading.{lines_readable}
@@ -7,6 +6,6 @@ use Rattle.hp_search.proofs.looking.look_quickly.Goals as goal
 
 pub first_false-requires-clause-readable : goal.first_false-requires-clause-readable
 first_false-requires-clause-readable c =
-    let ss = sorts c.args.g.now.names in
-    let found = subst (FindsAhead ss (place_lits c.args.g.now.lines c.args.path.now)) c.in-Values.is c.in_ok-places.ensures in
-    lines_readable ss c.in-Values.values.values found.small c.args.g.now.lines c.requires.built
+    let ss = c.args.sorts.now in
+    let found = subst (FindsAhead ss (place_lits c.args.lines.now c.args.path.now)) c.in-Values.is c.in_ok-places.ensures in
+    lines_readable ss c.in-Values.values.values found.small c.args.lines.now c.requires.fit

@@ -8,4 +8,4 @@ strain_over-requires-clause-path c =
     subst (λ q. length q ≤ 50000) (sym c.as_slice.ensures) (omega (arith, short, c.requires.path))
 
 pub returns-in-None-clause-strained : goal.returns-in-None-clause-strained
-returns-in-None-clause-strained c = caused_within c.args.g.now.lines c.args.path.now c.look_wholly.result c.look_wholly.ensures.strained
+returns-in-None-clause-strained c = caused_within c.args.lines.now c.args.path.now c.look_wholly.result c.look_wholly.ensures.strained

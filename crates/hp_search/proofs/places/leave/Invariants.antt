@@ -4,7 +4,7 @@ use Rattle.hp_search.specs.Search.{later}
 use Rattle.hp_search.proofs.places.leave.Given as goal
 
 abbrev pub invariant-places : goal.invariant-places
-invariant-places l = l.tree ++ replicate (length (later l.g.lines [] l.path)) Unopened ≡ l.initial.tree ++ replicate (length (later l.g.lines [] l.initial.path)) Unopened
+invariant-places l = l.tree ++ replicate (length (later l.lines [] l.path)) Unopened ≡ l.initial.tree ++ replicate (length (later l.lines [] l.initial.path)) Unopened
 
 abbrev pub decreases-places : goal.decreases-places
-decreases-places l = length (later l.g.lines [] l.path)
+decreases-places l = length (later l.lines [] l.path)
