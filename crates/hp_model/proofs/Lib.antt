@@ -1,1 +1,3 @@
 pub mod Universal
+pub mod Fits
+pub mod Sorted

@@ -1,4 +1,6 @@
 pub mod Value
+pub mod Declarations
+pub mod Scopes
 pub mod WellFormed
 pub mod Satisfies
 pub mod Laws

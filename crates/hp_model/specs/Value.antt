@@ -1,5 +1,5 @@
 -- The values that a structure gives to its constants and functions.
-use Rattle.std.specs.Prelude.{ℕ, zero, suc, List, [], ◌∷◌, true, if◌then◌else◌, pos, codes, slice_index_or}
+use Rattle.std.specs.Prelude.{ℕ, zero, suc, List, [], ◌∷◌, if◌then◌else◌, pos, codes, slice_index_or}
 use Rattle.std.specs.Str.{bytes_eq}
 use Rattle.hp_math.specs.Rational.{ℚ, whole}
 use Rattle.hp_tree.specs.declared.term.Term.{Term}
