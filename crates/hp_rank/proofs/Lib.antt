@@ -1,0 +1,5 @@
+pub mod Rising
+pub mod Places
+pub mod Steps
+pub mod Pointers
+pub mod Truth
