@@ -1,0 +1,9 @@
+pub mod First
+pub mod Telling
+pub mod Bodies
+pub mod Same
+pub mod Lists
+pub mod Adding
+pub mod Distinct
+pub mod Growing
+pub mod Fitting

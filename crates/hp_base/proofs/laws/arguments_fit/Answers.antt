@@ -1,0 +1,5 @@
+use Rattle.hp_base.proofs.ArgsMade.{arguments_fit}
+use Rattle.hp_base.proofs.laws.arguments_fit.Goals as goal
+
+pub returns : goal.returns
+returns c = arguments_fit

@@ -1,0 +1,9 @@
+use Rattle.std.proofs.Common.{◌∙◌, ap, map, sym, take}
+use Rattle.std.proofs.lemmas.List.{take-map}
+use Rattle.hp_defs.proofs.index.CellIndex.truncate.Goals as goal
+
+pub returns : goal.returns
+returns c =
+    ap (map (λ k. k.items)) c.truncate.ensures.keys
+    ∙ sym (take-map (λ k. k.items) c.args.len c.self.inside.set.keys)
+    ∙ ap (take c.args.len) c.self.view_is
