@@ -1,0 +1,9 @@
+pub mod Order
+pub mod Ground
+pub mod Structures
+pub mod Laws
+pub mod Places
+pub mod Small
+pub mod Kept
+pub mod Answers
+pub mod Few

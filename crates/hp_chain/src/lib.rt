@@ -1,0 +1,16 @@
+//! The ground set of a problem, and what ties it to the structures of the problem.
+#![tactic(auto)]
+
+mod few;
+mod grounding;
+mod index;
+mod laws;
+mod order;
+mod places;
+mod structures;
+mod tables;
+
+pub use few::ground_sets_have_few_lines;
+pub use grounding::ground;
+pub use laws::{ground_sets_are_fit, structures_give_values, values_give_a_structure};
+pub use structures::structure;

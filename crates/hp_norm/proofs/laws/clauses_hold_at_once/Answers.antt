@@ -1,0 +1,5 @@
+use Rattle.hp_norm.proofs.ProblemsNamed.{clauses_hold_at_once}
+use Rattle.hp_norm.proofs.laws.clauses_hold_at_once.Goals as goal
+
+pub returns : goal.returns
+returns c = clauses_hold_at_once

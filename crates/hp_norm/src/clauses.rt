@@ -1,0 +1,123 @@
+//! The lines of clauses without variables: the applications of a clause are named first, and then its literals are formed.
+
+ghost use Rattle.std.specs.Prelude.{◌≡◌, ◌+◌, ◌<◌, ◌≤◌, ◌^◌, length, IfOk};
+ghost use Rattle.std.specs.List.{All};
+ghost use Rattle.hp_tree.specs.Limits.{most_clauses};
+ghost use Rattle.hp_terms.specs.Weight.{IsLightAtom, IsLightClause};
+ghost use Rattle.hp_base.specs.Making.{Begins, Makes};
+ghost use Rattle.hp_norm.specs.Lines.{flat_line, ground_line, ground_lines};
+ghost use Rattle.hp_norm.specs.Naming.{named_atom, named_atoms};
+
+use crate::literals::flat_literals;
+use crate::naming::named;
+use hp_base::{add_line, computed};
+use hp_defs::Ground;
+use hp_lit::{GroundErr, Line, Origin};
+use hp_num::List;
+use hp_tree::{Atom, Clause};
+use std::alloc::Global;
+
+/// A line for each clause, in their order: the clauses count from 1, and so many items stand before them.
+///
+/// It asks for light clauses: the magnitudes of the numerators of each atom add up to less than 2 * 10^24. The first limit
+/// that is passed is the one that comes; at an error what was there before still is.
+pub fn ground_lines(
+    alloc: Global,
+    ground: &mut Ground,
+    before: u32,
+    clauses: &[Clause],
+) -> Result<(), GroundErr>
+    requires before { before < 2 ^ 28 }
+    requires most { length clauses.now ≤ most_clauses }
+    requires light { All IsLightClause clauses.now }
+    ensures made { Makes (ground_lines before 1 clauses.now) ground.old ground.new result }
+    ensures kept { Begins ground.old ground.new }
+{
+    for (at, clause) in clauses.iter().enumerate() {
+        let number = at as u32 + 1;
+        ground_line(alloc, ground, before + number, number, clause)?;
+    }
+    Ok(())
+}
+
+/// Adds the line of the clause of this number, which is this item.
+#[tactic(auto, using(hp_base::proofs::Making::begins_same, hp_base::proofs::Making::begins_trans))]
+fn ground_line(
+    alloc: Global,
+    ground: &mut Ground,
+    item: u32,
+    number: u32,
+    clause: &Clause,
+) -> Result<(), GroundErr>
+    requires { IsLightClause clause.now }
+    ensures made { Makes (ground_line item number clause.now) ground.old ground.new result }
+    ensures kept { Begins ground.old ground.new }
+{
+    let guard = named_atoms(alloc, ground, item, clause.guard.as_slice())?;
+    let head = named_atoms(alloc, ground, item, clause.head.as_slice())?;
+    flat_line(
+        alloc,
+        ground,
+        item,
+        number,
+        guard.as_slice(),
+        head.as_slice(),
+    )
+}
+
+/// Adds the line of these atoms, whose applications are named.
+#[tactic(auto, using(hp_base::proofs::Making::begins_same, hp_base::proofs::Making::begins_trans))]
+fn flat_line(
+    alloc: Global,
+    ground: &mut Ground,
+    item: u32,
+    number: u32,
+    guard: &[Atom],
+    head: &[Atom],
+) -> Result<(), GroundErr>
+    requires guard { All IsLightAtom guard.now }
+    requires head { All IsLightAtom head.now }
+    ensures made { Makes (flat_line item number guard.now head.now) ground.old ground.new result }
+    ensures kept { Begins ground.old ground.new }
+{
+    let lits = computed(item, flat_literals(alloc, &ground.names, guard, head))?;
+    let origin = Origin::Ground { clause: number };
+    add_line(ground, Line { lits, origin })
+}
+
+/// The atoms with names for their applications, in their order.
+fn named_atoms(
+    alloc: Global,
+    ground: &mut Ground,
+    item: u32,
+    atoms: &[Atom],
+) -> Result<List<Atom>, GroundErr>
+    requires { All IsLightAtom atoms.now }
+    ensures made { Makes (named_atoms item atoms.now) ground.old ground.new result }
+    ensures kept { Begins ground.old ground.new }
+    ensures light { IfOk result (All IsLightAtom) }
+{
+    let mut all = List::new(alloc);
+    for atom in atoms {
+        let atom = named_atom(alloc, ground, item, atom)?;
+        all.push(atom)?;
+    }
+    Ok(all)
+}
+
+/// An atom with names for its applications, its left side first.
+#[tactic(auto, using(hp_base::proofs::Making::begins_same, hp_base::proofs::Making::begins_trans))]
+fn named_atom(alloc: Global, ground: &mut Ground, item: u32, atom: &Atom) -> Result<Atom, GroundErr>
+    requires { IsLightAtom atom.now }
+    ensures made { Makes (named_atom item atom.now) ground.old ground.new result }
+    ensures kept { Begins ground.old ground.new }
+    ensures light { IfOk result IsLightAtom }
+{
+    let left = named(alloc, ground, item, &atom.left)?;
+    let right = named(alloc, ground, item, &atom.right)?;
+    Ok(Atom {
+        left,
+        cmp: atom.cmp,
+        right,
+    })
+}

@@ -1,0 +1,34 @@
+//! What the names and lines of a problem say of the values of its terms. None of these laws has a cause to fail: they
+//! speak of all problems, and nothing is computed.
+
+ghost use Rattle.hp_norm.specs.Laws.{AtomsNeedConstantsAlone, ClausesHoldAtOnce, ClausesNeedConstantsAlone, NamingFits, NamingSays};
+
+/// The ground set of a problem without variables has the declared names, definitions that fit the names before them,
+/// literals that can be decided, and a line for each sum.
+pub fn naming_fits()
+    ensures { NamingFits }
+{}
+
+/// All lines of a problem without variables are true exactly where all its clauses are, where names have values of their
+/// sorts, words the values of their names, and definitions those of their bodies.
+pub fn naming_says()
+    ensures { NamingSays }
+{}
+
+/// A sorted atom over the declared words has the same truth in all environments that give the declared constants the same
+/// values.
+pub fn atoms_need_constants_alone()
+    ensures { AtomsNeedConstantsAlone }
+{}
+
+/// Each clause of a problem without variables has the same truth in all environments that give the declared constants the
+/// same values.
+pub fn clauses_need_constants_alone()
+    ensures { ClausesNeedConstantsAlone }
+{}
+
+/// The clauses of a problem without variables hold at all values of their variables exactly where they hold at the empty
+/// list of values.
+pub fn clauses_hold_at_once()
+    ensures { ClausesHoldAtOnce }
+{}
