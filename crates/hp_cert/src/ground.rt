@@ -5,7 +5,7 @@ ghost use Rattle.std.specs.Prelude.{◌≡◌, ◌++◌, ◌+◌, ◌-◌, ◌<�
 ghost use Rattle.hp_defs.specs.Names.{sorts};
 ghost use Rattle.hp_leaf.specs.Tree.{IsLine};
 ghost use Rattle.hp_cert.specs.Lines.{body_text, def_text, line_text, origin_text};
-ghost use Rattle.hp_cert.specs.Named.{BodyIsNamed, GroundIsNamed};
+ghost use Rattle.hp_cert.specs.Named.{AreNamed, BodyIsNamed};
 
 use crate::forms::{put_args, put_lin, put_name};
 use crate::literals::put_lits;
@@ -18,8 +18,7 @@ use std::alloc::{AllocError, Global};
 /// The text of the line with this number, from 1 to the count of lines: where it comes from, and its literals. It is
 /// what stands behind `line N ` where the line is listed. An `Err` comes where memory is short.
 pub fn line_text(alloc: Global, g: &Ground, line: u32) -> Result<Text, AllocError>
-    requires named { GroundIsNamed g.now }
-    requires line { IsLine g.now.lines line }
+    requires { IsLine g.now.lines line }
     ensures { IfOk result (λ text. text ≡ line_text g.now line) }
 {
     let line = g.lines.get(line as usize - 1);
@@ -33,7 +32,7 @@ pub fn line_text(alloc: Global, g: &Ground, line: u32) -> Result<Text, AllocErro
 /// The text of what a definition stands for: an application or a sum. It is what stands behind `def _N = ` where the
 /// definition is listed. The name is not that of a constant. An `Err` comes where memory is short.
 pub fn def_text(alloc: Global, g: &Ground, name: Name) -> Result<Text, AllocError>
-    requires named { GroundIsNamed g.now }
+    requires named { AreNamed g.now.names }
     requires made { length g.now.names.constants ≤ name.0 }
     requires name { name.0 < length (sorts g.now.names) }
     ensures { IfOk result (λ text. text ≡ def_text g.now.names (name.0 - length g.now.names.constants + 1)) }

@@ -7,7 +7,7 @@ ghost use Rattle.std.specs.List.{All};
 ghost use Rattle.hp_tree.specs.Limits.{most_names};
 ghost use Rattle.hp_leaf.specs.Tree.{IsClosed};
 ghost use Rattle.hp_cert.specs.Entries.{all_defs, marked_lines, with_mark, with_marks, AreSplitLines, SplitsLine};
-ghost use Rattle.hp_cert.specs.Named.{DefIsNamed, GroundIsNamed};
+ghost use Rattle.hp_cert.specs.Named.{AreNamed};
 ghost use Rattle.hp_cert.specs.Refutes.{Refutes};
 ghost use Rattle.hp_cert.specs.Spelled.{AreOnOneLine, HasNumber, IsReading, IsSpelled};
 
@@ -23,7 +23,7 @@ use std::alloc::{AllocError, Global};
 /// Where its leaves are valid, and no name has a line feed, all of this is spelled, so that its text can be read back. An `Err` comes where memory is
 /// short, or the tree has more than 4,294,967,295 nodes.
 pub fn entries(alloc: Global, g: &Ground, tree: List<Node>) -> Result<Refutation, AllocError>
-    requires named { GroundIsNamed g.now }
+    requires named { AreNamed g.now.names }
     requires splits { All (SplitsLine g.now) tree }
     ensures defs { IfOk result (λ r. r.defs ≡ all_defs g.now.names) }
     ensures lines { IfOk result (λ r. AreSplitLines g.now tree r.lines) }
@@ -42,7 +42,7 @@ pub fn entries(alloc: Global, g: &Ground, tree: List<Node>) -> Result<Refutation
 
 /// All definitions with their texts.
 fn defined(alloc: Global, names: &Names) -> Result<List<Entry>, AllocError>
-    requires { All (DefIsNamed names.now) names.now.definitions }
+    requires { AreNamed names.now }
     ensures defs { IfOk result (λ defs. defs ≡ all_defs names.now) }
     ensures few { length names.now.definitions ≤ most_names }
 {
@@ -73,8 +73,7 @@ fn marked(alloc: Global, g: &Ground, tree: &[Node]) -> Result<Vec<bool>, AllocEr
 
 /// The marked lines with their texts, in rising order.
 fn listed(alloc: Global, g: &Ground, marks: &[bool]) -> Result<List<Entry>, AllocError>
-    requires named { GroundIsNamed g.now }
-    requires marks { length marks.now ≡ length g.now.lines }
+    requires { length marks.now ≡ length g.now.lines }
     ensures lines { IfOk result (λ lines. lines ≡ marked_lines g.now marks.now (length marks.now)) }
     ensures numbers { IfOk result (λ lines. All HasNumber lines) }
 {

@@ -3,10 +3,9 @@ use Rattle.std.proofs.Common.{◌≡◌, ◌≢◌, ◌<◌, ◌≤◌, ◌+◌,
 use Rattle.std.proofs.lemmas.Bool.{ltb-false}
 use Rattle.hp_tree.specs.declared.problem.Problem.{Problem}
 use Rattle.hp_bounds.proofs.Bounds as bounds
-use Rattle.hp_ground.specs.Ground.{IsGroundProblem}
-use Rattle.hp_index.specs.Literals.{IsLight}
-use Rattle.hp_cli.specs.NotBuilt.{IsBuilt, IsNotBuilt}
-use Rattle.hp_scope.proofs.Scope.{scope_by_sorts}
+use Rattle.hp_bounds.proofs.Plain.{plain_names}
+use Rattle.hp_terms.specs.Weight.{IsLight}
+use Rattle.hp_terms.specs.Words.{IsPlain}
 use Rattle.hp_solve.specs.Solved.{IsInScope}
 use Rattle.hp_sorts.specs.declared.fault.SortErr.{SortErr}
 use Rattle.hp_sorts.specs.declared.fault.SortErr.TheVariants.{Twice, Level, Unknown, Arity, Mismatch, Memory}
@@ -20,6 +19,9 @@ few_items bytes p r = omega (arith, r.size, bounds.few_items bytes p r.spelled)
 
 pub is_light : (bytes : List ℕ) (p : Problem) → IsRead bytes p → IsLight p
 is_light bytes p r = bounds.light_numbers bytes p r.spelled r.size
+
+pub is_plain : (bytes : List ℕ) (p : Problem) → IsRead bytes p → IsPlain p
+is_plain bytes p r = plain_names bytes p r.spelled
 
 not_first : {A : Type 0} (b : Bool) (x : A) (rest : Option A) → cond b (Some x) rest ≡ None → b ≡ false
 not_first true x rest e = absurd (cc)
@@ -37,12 +39,5 @@ is_fault fault (Arity item) h n = h
 is_fault fault (Mismatch item) h n = h
 is_fault fault Memory h n = absurd (n refl)
 
--- ---- what the forms of a well-sorted problem say of its sorts
-pub const_problem : (bytes : List ℕ) (p : Problem) → IsCounted bytes p → IsGroundProblem p → IsBuilt p
-const_problem bytes p c ground = (scope_by_sorts p c.sorted.sorted).0 ground
-
-pub no_const_problem : (bytes : List ℕ) (p : Problem) → IsCounted bytes p → (IsGroundProblem p → ⊥) → IsNotBuilt p
-no_const_problem bytes p c other built = other ((scope_by_sorts p c.sorted.sorted).1 built)
-
 pub in_scope : (bytes : List ℕ) (p : Problem) → IsCounted bytes p → IsInScope p → InScope bytes p
-in_scope bytes p c s = record { counted = c; built = const_problem bytes p c s.problem; within = s.within }
+in_scope bytes p c s = record { counted = c; built = s.ready; within = s.within }

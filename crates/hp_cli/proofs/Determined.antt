@@ -1,5 +1,5 @@
 -- The answers of an input exclude one another: each has a cause that the others lack.
-use Rattle.std.proofs.Common.{◌≡◌, inl, ℕ, List, None, Some, ◌≤◌, length, refl, sym, ap, subst, ◌∙◌, arith}
+use Rattle.std.proofs.Common.{◌≡◌, inl, ℕ, List, None, Some, true, false, ◌≤◌, length, refl, sym, ap, ◌∙◌, arith}
 use Rattle.std.specs.declared.option.Option.{Option}
 use Rattle.hp_ast.specs.Printing.{problem_text}
 use Rattle.hp_tree.specs.declared.problem.Problem.{Problem}
@@ -7,7 +7,8 @@ use Rattle.hp_faults.proofs.Faults.{one_fault}
 use Rattle.hp_read.proofs.BytesLaws.{no_fault, one_problem}
 use Rattle.hp_sorts.specs.Faults.{sort_fault}
 use Rattle.hp_sorts.specs.Limits.{passed}
-use Rattle.hp_ground.specs.Lines.{limit_of}
+use Rattle.hp_norm.specs.Waiting.{is_waiting}
+use Rattle.hp_chain.specs.Laws.{limit_of}
 use Rattle.hp_cli.specs.NotBuilt.{IsBuilt, IsNotBuilt}
 use Rattle.hp_tree.specs.Limits.{most_bytes}
 use Rattle.hp_cli.specs.declared.answer.Status.{Status}
@@ -107,7 +108,9 @@ module _ (bytes text other : List ℕ) where
       a.written ∙ ap limit_text (some_same a.passed_limit b.passed_limit (sym a.cause ∙ ap limit_of same ∙ b.cause)) ∙ sym b.written
 
   built_or_other : (p q : Problem) → IsCounted bytes p → IsCounted bytes q → IsBuilt p → IsNotBuilt q → ⊥
-  built_or_other p q c d built other_built = other_built (subst IsBuilt (one_read p q c.sorted.read d.sorted.read) built)
+  built_or_other p q c d built other_built =
+      let waits : false ≡ true = sym built ∙ ap is_waiting (one_read p q c.sorted.read d.sorted.read) ∙ other_built in
+      cc
 
   -- ---- one end
   one_print_end : (s t : Status) → Does bytes text Print s → Does bytes other Print t → (s ≡ t) × (text ≡ other)

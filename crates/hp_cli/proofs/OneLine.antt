@@ -10,9 +10,8 @@ use Rattle.hp_text.specs.Bytes.{is_letter, is_name_byte}
 use Rattle.hp_text.specs.Words.{is_name, is_reserved}
 use Rattle.hp_grammar.specs.declared.symbol.Symbol.{Symbol as Token}
 use Rattle.hp_grammar.specs.Token.{AreTokens}
-use Rattle.hp_model.specs.WellFormed.{constants}
 use Rattle.hp_cert.specs.Spelled.{IsOther, IsOnOneLine}
-use Rattle.hp_ground.specs.Ground.{declared_name}
+use Rattle.hp_terms.specs.Words.{declared_word}
 use Rattle.hp_roundtrip.specs.inner.Printed.{clause_tokens, decl_tokens}
 use Rattle.hp_roundtrip.proofs.Spelled.{spelled_by_tokens}
 use Rattle.hp_solve.specs.Solved.{AreNamesOnOneLine}
@@ -38,12 +37,14 @@ parts : (u v : List Token) → AreTokens (u ++ v) → AreTokens u × AreTokens v
 parts [] v h = (tt, h)
 parts (t ∷ u) v h = let r = parts u v h.1 in ((h.0, r.0), r.1)
 
-declared_on_one_line : (ds : List Decl) → AreTokens (flat_map decl_tokens ds) → All IsOnOneLine (map declared_name (constants ds))
+declared_on_one_line : (ds : List Decl) → AreTokens (flat_map decl_tokens ds) → All IsOnOneLine (map declared_word ds)
 declared_on_one_line [] h = All-nil IsOnOneLine
 declared_on_one_line (Const x s ∷ ds) h =
     let p = parts (decl_tokens (Const x s)) (flat_map decl_tokens ds) h in
-    All-cons IsOnOneLine x (map declared_name (constants ds)) (name_on_one_line x p.0.1.0) (declared_on_one_line ds p.1)
-declared_on_one_line (Fun f ss s n ∷ ds) h = declared_on_one_line ds (parts (decl_tokens (Fun f ss s n)) (flat_map decl_tokens ds) h).1
+    All-cons IsOnOneLine x (map declared_word ds) (name_on_one_line x p.0.1.0) (declared_on_one_line ds p.1)
+declared_on_one_line (Fun f ss s n ∷ ds) h =
+    let p = parts (decl_tokens (Fun f ss s n)) (flat_map decl_tokens ds) h in
+    All-cons IsOnOneLine f (map declared_word ds) (name_on_one_line f p.0.1.0) (declared_on_one_line ds p.1)
 
 pub names_on_one_line : (bytes : List ℕ) (p : Problem) → IsRead bytes p → AreNamesOnOneLine p
 names_on_one_line bytes p r =

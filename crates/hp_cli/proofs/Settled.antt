@@ -1,12 +1,12 @@
 -- A text in scope is answered by a verdict: every refusal has a cause that it lacks.
-use Rattle.std.proofs.Common.{◌≡◌, inl, inr, ℕ, List, [], ◌∷◌, None, Some, sym, ap, subst, ◌∙◌, arith}
+use Rattle.std.proofs.Common.{◌≡◌, inl, inr, ℕ, List, [], ◌∷◌, None, Some, true, false, sym, ap, ◌∙◌, arith}
 use Rattle.std.specs.Prelude.{codes}
 use Rattle.hp_tree.specs.declared.problem.Problem.{Problem}
 use Rattle.hp_read.proofs.BytesLaws.{no_fault, one_problem}
 use Rattle.hp_sorts.specs.Faults.{sort_fault}
 use Rattle.hp_sorts.specs.Limits.{passed}
-use Rattle.hp_ground.specs.Lines.{limit_of}
-use Rattle.hp_cli.specs.NotBuilt.{IsBuilt}
+use Rattle.hp_chain.specs.Laws.{limit_of}
+use Rattle.hp_norm.specs.Waiting.{is_waiting}
 use Rattle.hp_cli.specs.declared.answer.Status.{Status}
 use Rattle.hp_cli.specs.declared.words.Task.{Task}
 use Rattle.hp_cli.specs.declared.words.Task.TheVariants.{Solve, Print}
@@ -58,7 +58,8 @@ module _ (bytes text : List ℕ) (p : Problem) (scope : InScope bytes p) where
   no_other_form : OtherForm bytes text → ⊥
   no_other_form m =
       let same = one_problem bytes p m.problem scope.counted.sorted.read.spelled m.counted.sorted.read.spelled in
-      m.other (subst IsBuilt same scope.built)
+      let waits : false ≡ true = sym scope.built ∙ ap is_waiting same ∙ m.other in
+      cc
 
   solves_settled : (most : ℕ) (s : Status) → Does bytes text (Solve most) s → IsSettled s
   solves_settled most _ (too_long h) = absurd (no_length h)

@@ -1,11 +1,12 @@
 -- Which problems are decided so far, by their form.
+use Rattle.std.specs.Prelude.{◌≡◌, true, false}
 use Rattle.hp_tree.specs.declared.problem.Problem.{Problem}
-use Rattle.hp_scope.specs.Laws.{IsScopedProblem}
+use Rattle.hp_norm.specs.Waiting.{is_waiting}
 
--- it declares constants of sort idx and num alone, no clause has variables, and each atom is of one of these sorts
+-- no clause has a variable
 abbrev pub IsBuilt : Problem → Type 0
-IsBuilt p = IsScopedProblem p
+IsBuilt p = is_waiting p ≡ false
 
 -- a problem of a form that isn't decided so far
 abbrev pub IsNotBuilt : Problem → Type 0
-IsNotBuilt p = IsBuilt p → ⊥
+IsNotBuilt p = is_waiting p ≡ true

@@ -24,7 +24,7 @@ use Rattle.hp_cert.specs.Refutes.{Refutes}
 use Rattle.hp_cert.specs.Spelled.{IsSpelled}
 use Rattle.hp_descent.specs.declared.answer.Strain.{Strain}
 use Rattle.hp_search.specs.Search.{IsHonestStrain}
-use Rattle.hp_ground.specs.Lines.{IsGroundOf, limit_of}
+use Rattle.hp_chain.specs.Laws.{IsGroundOf, limit_of}
 use Rattle.hp_cert.specs.Overflow.{overflow_text}
 use Rattle.hp_cli.specs.NotBuilt.{IsBuilt, IsNotBuilt}
 use Rattle.hp_tree.specs.Limits.{most_bytes}
@@ -46,8 +46,8 @@ pub record IsCounted (bytes : List ℕ) (p : Problem) : Type 0 where
   pub sorted : IsSorted bytes p
   pub counted : passed p ≡ None
 
--- Its form is decided, and it passes no limit: it has at most 4,000 constants, and no number of a normal form passes
--- 2^127 - 1. These are the texts that get a verdict, or a strain.
+-- Its form is decided, and its ground set passes no limit: it has at most 4,000 constants and definitions and 50,000 lines,
+-- and no number of a normal form passes 2^127 - 1. These are the texts that get a verdict, or a strain.
 pub record InScope (bytes : List ℕ) (p : Problem) : Type 0 where
   pub counted : IsCounted bytes p
   pub built : IsBuilt p
@@ -81,7 +81,7 @@ pub record TooMany (bytes text : List ℕ) : Type 0 where
   pub cause : passed problem ≡ Some passed_limit
   pub written : text ≡ limit_text passed_limit
 
--- more constants than a ground problem may have, or a number of a normal form that is too wide
+-- more names or lines than a ground set may have, or a number of a normal form that is too wide, whichever is made first
 pub record Limited (bytes text : List ℕ) : Type 0 where
   pub problem : Problem
   pub counted : IsCounted bytes problem

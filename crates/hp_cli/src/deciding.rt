@@ -17,6 +17,7 @@ use crate::words::Task;
 use hp_cert::{Refutation, body, overflow_text, write};
 use hp_grammar::ReadErr;
 use hp_model::{Structure, write_structure};
+use hp_norm::is_waiting;
 use hp_num::Text;
 use hp_read::read;
 use hp_roundtrip::reprint;
@@ -35,7 +36,6 @@ pub struct Answer {
 
 /// The text of a structure that satisfies the problem.
 fn sat_text(alloc: Global, structure: &Structure) -> Result<Text, AllocError>
-    requires { structure.now.tables ≡ [] }
     ensures { IfOk result (λ text. text ≡ line (codes "satisfiable") ++ structure_text structure.now) }
 {
     let mut out = Text::from_slice(alloc, b"satisfiable\n")?;
@@ -159,12 +159,14 @@ fn settle(alloc: Global, bytes: &[u8], problem: &Problem, most: u64) -> Result<A
     requires most { 1 ≤ most }
     ensures { IfOk result (λ answer. Does bytes.now answer.text (Task.Solve most) answer.status) }
 {
-    match solve(alloc, problem, most) {
-        Solved::Memory => Err(AllocError),
-        Solved::Other => Ok(Answer {
+    if is_waiting(problem) {
+        return Ok(Answer {
             text: refusals::not_built(alloc)?,
             status: Status::NotBuilt,
-        }),
+        });
+    }
+    match solve(alloc, problem, most) {
+        Solved::Memory => Err(AllocError),
         Solved::Limit(limit) => Ok(Answer {
             text: refusals::limit(alloc, limit)?,
             status: Status::Limit,

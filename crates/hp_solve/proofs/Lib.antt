@@ -1,5 +1,5 @@
-pub mod Rows
+pub mod Grounded
+pub mod Sorts
 pub mod Splits
 pub mod Scope
-pub mod Structures
 pub mod Verdicts

@@ -1,5 +1,5 @@
 -- What a verdict says of a problem.
-use Rattle.std.specs.Prelude.{◌≡◌, ℕ, [], Some, None}
+use Rattle.std.specs.Prelude.{◌≡◌, ℕ, map, false, Some, None}
 use Rattle.std.specs.List.{All}
 use Rattle.hp_tree.specs.declared.problem.Problem.{Problem}
 use Rattle.hp_defs.specs.declared.names.Ground.{Ground}
@@ -13,25 +13,27 @@ use Rattle.hp_model.specs.declared.structure.Structure.{Structure}
 use Rattle.hp_model.specs.Satisfies.{Satisfies}
 use Rattle.hp_descent.specs.declared.answer.Strain.{Strain}
 use Rattle.hp_search.specs.Search.{IsHonestStrain}
-use Rattle.hp_ground.specs.Ground.{IsGroundProblem, declared}
-use Rattle.hp_ground.specs.Lines.{IsGroundOf, limit_of}
+use Rattle.hp_sorts.specs.Faults.{sort_fault}
+use Rattle.hp_terms.specs.Words.{declared_word}
+use Rattle.hp_norm.specs.Waiting.{is_waiting}
+use Rattle.hp_chain.specs.Laws.{IsGroundOf, limit_of}
 use Rattle.hp_solve.specs.declared.solving.Solved.{Solved}
-use Rattle.hp_solve.specs.declared.solving.Solved.TheVariants.{Sat, Unsat, Spent, Strained, Other, Limit, Memory}
+use Rattle.hp_solve.specs.declared.solving.Solved.TheVariants.{Sat, Unsat, Spent, Strained, Limit, Memory}
 
--- a problem over constants of sort idx and num that passes no limit
+-- a sorted problem without variables that passes no limit
 pub record IsInScope (p : Problem) : Type 0 where
-  pub problem : IsGroundProblem p
+  pub sorted : sort_fault p ≡ None
+  pub ready : is_waiting p ≡ false
   pub within : limit_of p ≡ None
 
 -- no declared name has a line feed, as in each problem that some text spells
 abbrev pub AreNamesOnOneLine : Problem → Type 0
-AreNamesOnOneLine p = All IsOnOneLine (declared p)
+AreNamesOnOneLine p = All IsOnOneLine (map declared_word p.decls)
 
 -- a structure satisfies the problem
 pub record IsSat (p : Problem) (s : Structure) : Type 0 where
   pub scope : IsInScope p
   pub satisfied : Satisfies s p
-  pub no_tables : s.tables ≡ []
 
 -- the refutation refutes the ground lines, lists all definitions and the lines that it splits, and is spelled; no structure
 -- satisfies the problem
@@ -67,6 +69,5 @@ SolvedAs p most (Sat s) = IsSat p s
 SolvedAs p most (Unsat r) = IsUnsat p r
 SolvedAs p most (Spent r) = IsSpentOn p most r
 SolvedAs p most (Strained s) = IsStrainedOn p s
-SolvedAs p most Other = IsGroundProblem p → ⊥
-SolvedAs p most (Limit l) = IsGroundProblem p × (limit_of p ≡ Some l)
+SolvedAs p most (Limit l) = limit_of p ≡ Some l
 SolvedAs p most Memory = Unit {0}

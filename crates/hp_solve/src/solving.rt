@@ -1,24 +1,27 @@
 //! From a problem to its ground lines, from these to what a search finds, and from that to the evidence.
 
-ghost use Rattle.std.specs.Prelude.{◌≡◌, ◌<◌, ◌≤◌, ◌^◌, IfOk, false, ℕ, length, map};
-ghost use Rattle.hp_tree.specs.Limits.{most_clauses};
-ghost use Rattle.hp_defs.specs.Names.{constant_name, sorts};
+ghost use Rattle.std.specs.Prelude.{◌≡◌, ◌<◌, ◌≤◌, ◌^◌, IfOk, None, false, ℕ, length};
+ghost use Rattle.hp_terms.specs.Weight.{IsLight};
+ghost use Rattle.hp_terms.specs.Words.{IsPlain};
+ghost use Rattle.hp_defs.specs.Names.{sorts};
 ghost use Rattle.hp_search.specs.Search.{IsCause, IsFound};
-ghost use Rattle.hp_ground.specs.Laws.{structure_of};
-ghost use Rattle.hp_ground.specs.Lines.{IsGroundOf};
-ghost use Rattle.hp_index.specs.Literals.{IsLight};
+ghost use Rattle.hp_sorts.specs.Faults.{sort_fault};
+ghost use Rattle.hp_sorts.specs.Limits.{passed};
+ghost use Rattle.hp_norm.specs.Waiting.{is_waiting};
+ghost use Rattle.hp_chain.specs.Answers.{HasNamesOf};
+ghost use Rattle.hp_chain.specs.Laws.{IsGroundOf};
 ghost use Rattle.hp_solve.specs.Solved.{IsInScope, SolvedAs};
 
 use hp_cert::{Refutation, entries};
-use hp_defs::{Constant, Ground};
+use hp_chain::{ground, structure};
+use hp_defs::{Ground, Names};
 use hp_descent::Strain;
-use hp_ground::ground;
 use hp_leaf::Node;
-use hp_lit::{GroundErr, Valuation};
-use hp_model::{ConstValue, Structure};
+use hp_lit::{GroundErr, Name};
+use hp_model::Structure;
 use hp_num::List;
 use hp_search::{Found, SearchErr, search};
-use hp_tree::{Limit, Problem};
+use hp_tree::{Limit, Problem, Sort};
 use std::alloc::{AllocError, Global};
 
 /// The verdict on a problem.
@@ -32,49 +35,51 @@ pub enum Solved {
     Spent(Refutation),
     /// A number passes 2^127 - 1 over the literals of an honest path of the search.
     Strained(Strain),
-    /// The problem is not one over constants of sort idx and num, without functions and variables.
-    Other,
-    /// The problem is such a one, and passes this limit first: that of 4,000 constants, and then that on the numbers in the
-    /// computation of normal forms, none of which may pass 2^127 - 1. Its item, counted from 1 over the declarations and then
-    /// the clauses, is the first clause with such an atom.
+    /// The problem passes this limit first, in the order in which its ground set is made: that of 4,000 constants and
+    /// definitions, that of 50,000 lines, or that on the numbers in the computation of normal forms, none of which may pass
+    /// 2^127 - 1. Its item, counted from 1 over the declarations and then the clauses, is the clause, or of a line of
+    /// congruence the function, that takes such a number.
     Limit(Limit),
     /// Memory was wanting.
     Memory,
 }
 
-/// The structure in which the constants have these values.
-fn structure(
-    alloc: Global,
-    constants: &[Constant],
-    values: &Valuation,
-) -> Result<Structure, AllocError>
-    requires { length values.now.values ≡ length constants.now }
-    ensures { IfOk result (λ s. s ≡ structure_of (map constant_name constants.now) values.now.values) }
+/// The sorts of all names, in the order of the names.
+fn sorts_of(alloc: Global, names: &Names) -> Result<List<Sort>, AllocError>
+    ensures { IfOk result (λ found. found ≡ sorts names.now) }
 {
-    let mut consts: List<ConstValue> = List::new(alloc);
-    for (at, constant) in constants.iter().enumerate() {
-        consts.push(ConstValue {
-            name: constant.name.copy(alloc)?,
-            value: *values.values.get(at),
-        })?;
+    let mut found = List::new(alloc);
+    for at in 0..names.count() {
+        found.push(names.sort(Name(at as u32)))?;
     }
-    Ok(Structure {
-        universe: 1,
-        consts,
-        tables: List::new(alloc),
-    })
+    Ok(found)
 }
 
 /// The verdict of what a search found.
-fn verdict(alloc: Global, p: &Problem, g: &Ground, most: u64, found: Found) -> Solved
+fn verdict(
+    alloc: Global,
+    p: &Problem,
+    g: &Ground,
+    name_sorts: &[Sort],
+    most: u64,
+    found: Found,
+) -> Solved
     requires ground { IsGroundOf p.now g.now }
+    requires names { HasNamesOf p.now g.now }
     requires scope { IsInScope p.now }
+    requires sorts { name_sorts.now ≡ sorts g.now.names }
     requires found { IsFound (sorts g.now.names) g.now.lines most false found }
     ensures { SolvedAs p.now most result }
 {
     match found {
         Found::Model(solution) => {
-            match structure(alloc, g.names.constants(), &solution.values) {
+            match structure(
+                alloc,
+                p.decls.as_slice(),
+                &g.names,
+                name_sorts,
+                &solution.values,
+            ) {
                 Ok(structure) => Solved::Sat(structure),
                 Err(_) => Solved::Memory,
             }
@@ -103,30 +108,46 @@ fn unfinished(p: &Problem, g: &Ground, error: SearchErr) -> Solved
     }
 }
 
+/// The verdict of a search of the ground lines of a problem.
+fn searched(alloc: Global, p: &Problem, g: &Ground, most: u64) -> Solved
+    requires most { 1 ≤ most }
+    requires ground { IsGroundOf p.now g.now }
+    requires names { HasNamesOf p.now g.now }
+    requires scope { IsInScope p.now }
+    ensures { SolvedAs p.now most result }
+{
+    match sorts_of(alloc, &g.names) {
+        Err(_) => Solved::Memory,
+        Ok(sorts) => {
+            match search(alloc, sorts.as_slice(), g.lines.as_slice(), most, false) {
+                Ok(found) => verdict(alloc, p, g, sorts.as_slice(), most, found),
+                Err(error) => unfinished(p, g, error),
+            }
+        }
+    }
+}
+
 /// Decides a problem by a search with at most so many splits and leaves.
 ///
-/// `Other` comes exactly where the problem isn't one over constants of sort idx and num without functions and variables, and
-/// `Limit` exactly where it is one that passes a limit. Every other problem has a verdict or a strain, unless memory is
+/// `Limit` comes exactly where the problem passes a limit. Every other problem has a verdict or a strain, unless memory is
 /// wanting.
 ///
-/// It asks for at least one split or leaf, fewer than 2^28 declarations, at most 2,000 clauses, and a light problem: the
-/// magnitudes of the numerators of each atom, those in arguments and those that multiply left out, add up to less than 10^25.
+/// It asks for at least one split or leaf, and for a problem whose names and sorts are right, without variables, with at most
+/// 2,000 clauses, functions of at most 4 arguments and less than 2^28 declarations, of whose names none is `_` with digits,
+/// and light: the magnitudes of the numerators of each atom add up to less than 2 * 10^24.
 pub fn solve(alloc: Global, p: &Problem, most: u64) -> Solved
     requires most { 1 ≤ most }
-    requires declarations { length p.now.decls < 2 ^ 28 }
-    requires clauses { length p.now.clauses ≤ most_clauses }
+    requires sorted { sort_fault p.now ≡ None }
+    requires ready { is_waiting p.now ≡ false }
+    requires plain { IsPlain p.now }
+    requires limits { passed p.now ≡ None }
+    requires items { length p.now.decls < 2 ^ 28 }
     requires light { IsLight p.now }
     ensures { SolvedAs p.now most result }
 {
     match ground(alloc, p) {
         Err(GroundErr::Limit(limit)) => Solved::Limit(limit),
         Err(GroundErr::Memory) => Solved::Memory,
-        Ok(found) => match found {
-            None => Solved::Other,
-            Some(g) => match search(alloc, &g, most, false) {
-                Ok(found) => verdict(alloc, p, &g, most, found),
-                Err(error) => unfinished(p, &g, error),
-            },
-        },
+        Ok(g) => searched(alloc, p, &g, most),
     }
 }

@@ -4,8 +4,8 @@ use Rattle.hp_cert.proofs.Splitting.{count_marks, refutes, split_lines}
 use Rattle.hp_cert.specs.Entries.{AreSplitLines, with_marks}
 use Rattle.hp_cert.proofs.listing.entries.Goals as goal
 
-pub listed-requires-clause-marks : goal.listed-requires-clause-marks
-listed-requires-clause-marks c =
+pub listed-requires : goal.listed-requires
+listed-requires c =
     let g = c.args.g.now in
     let marks = c.as_slice-2.ensures.value ∙ c.in_ok-marks.ensures ∙ ap (with_marks (replicate (length g.lines) false)) c.as_slice.ensures in
     ap length marks ∙ count_marks g c.args.tree

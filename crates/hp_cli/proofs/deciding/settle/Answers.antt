@@ -1,30 +1,33 @@
-use Rattle.std.proofs.Common.{arith}
+use Rattle.std.proofs.Common.{rules, arith}
 use Rattle.hp_cli.specs.Answer.{limited, other_form, out_of_nodes, satisfiable, strained, unsatisfiable}
-use Rattle.hp_cli.proofs.Decisions.{few_items, in_scope, is_light, const_problem, no_const_problem}
+use Rattle.hp_cli.proofs.Decisions.{few_items, in_scope, is_light, is_plain}
 use Rattle.hp_cli.proofs.OneLine.{names_on_one_line}
 use Rattle.hp_cli.proofs.deciding.settle.Goals as goal
 
-pub solve-requires-clause-declarations : goal.solve-requires-clause-declarations
-solve-requires-clause-declarations c = omega (arith, few_items c.args.bytes.now c.args.problem.now c.requires.counted.sorted.read)
+pub solve-requires-clause-items : goal.solve-requires-clause-items
+solve-requires-clause-items c = omega (arith, few_items c.args.bytes.now c.args.problem.now c.requires.counted.sorted.read)
+
+pub solve-requires-clause-plain : goal.solve-requires-clause-plain
+solve-requires-clause-plain c = is_plain c.args.bytes.now c.args.problem.now c.requires.counted.sorted.read
 
 pub solve-requires-clause-light : goal.solve-requires-clause-light
 solve-requires-clause-light c = is_light c.args.bytes.now c.args.problem.now c.requires.counted.sorted.read
 
-pub returns-in_ok-not_built-in-Other : goal.returns-in_ok-not_built-in-Other
-returns-in_ok-not_built-in-Other c = other_form (record {
+pub returns-then-is_waiting : goal.returns-then-is_waiting
+returns-then-is_waiting c = other_form (record {
   problem = c.args.problem.now;
   counted = c.requires.counted;
-  other = no_const_problem c.args.bytes.now c.args.problem.now c.requires.counted c.in-Other.ensures;
-  written = c.in_ok-not_built-in-Other.ensures;
+  other = search rules;
+  written = c.in_ok-not_built.ensures;
 })
 
 pub returns-in_ok-limit-in-Limit : goal.returns-in_ok-limit-in-Limit
 returns-in_ok-limit-in-Limit c = limited (record {
   problem = c.args.problem.now;
   counted = c.requires.counted;
-  built = const_problem c.args.bytes.now c.args.problem.now c.requires.counted c.in-Limit.ensures.0;
+  built = search rules;
   passed_limit = c.in-Limit.limit;
-  cause = c.in-Limit.ensures.1;
+  cause = c.in-Limit.ensures;
   written = c.in_ok-limit-in-Limit.ensures;
 })
 

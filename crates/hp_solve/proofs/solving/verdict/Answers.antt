@@ -1,30 +1,48 @@
-use Rattle.std.proofs.Common.{◌∙◌, ℕ, false, List, length, map, ap, sym, subst}
-use Rattle.hp_defs.specs.Names.{constant_name, sorts}
+use Rattle.std.proofs.Common.{◌∙◌, ℕ, false, List, ap, sym, subst}
+use Rattle.std.specs.Prelude.{slice_get}
+use Rattle.std.specs.List.{list_any}
+use Rattle.hp_defs.specs.Names.{sorts}
 use Rattle.hp_leaf.specs.Tree.{IsSpent}
 use Rattle.hp_cert.specs.Entries.{AreSplitLines}
 use Rattle.hp_search.specs.Search.{IsFound}
-use Rattle.hp_ground.specs.Laws.{structure_of}
-use Rattle.hp_solve.proofs.Rows.{ground_named}
+use Rattle.hp_lit.specs.Sorts.{AreOfSorts}
+use Rattle.hp_tree.specs.declared.problem.Sort.{Sort}
+use Rattle.hp_sorts.specs.Limits.{has_many_arguments}
+use Rattle.hp_norm.specs.Lines.{signatures_from}
+use Rattle.hp_solve.proofs.Grounded.{few_arguments_of, names_named, names_on_one_line}
 use Rattle.hp_solve.proofs.Splits.{closed_reading, closed_splits, spent_reading, spent_splits}
-use Rattle.hp_solve.proofs.Structures.{count_of_values, ground_names, names_on_one_line}
 use Rattle.hp_solve.proofs.Verdicts.{sat_from, none_from}
 use Rattle.hp_solve.proofs.solving.verdict.Goals as goal
 
-pub structure-requires : goal.structure-requires
-structure-requires c =
+pub structure-requires-clause-declared : goal.structure-requires-clause-declared
+structure-requires-clause-declared c = c.requires.names.declared ∙ ap (signatures_from 1) (sym c.as_slice.ensures)
+
+pub structure-requires-clause-arguments : goal.structure-requires-clause-arguments
+structure-requires-clause-arguments c =
+    ap (list_any has_many_arguments) c.as_slice.ensures ∙ few_arguments_of c.args.p.now c.requires.ground.limits
+
+pub structure-requires-clause-sorted : goal.structure-requires-clause-sorted
+structure-requires-clause-sorted c =
     let g = c.args.g.now in
     let found = subst (λ f. IsFound (sorts g.names) g.lines c.args.most false f) c.in-Model.is c.requires.found in
-    count_of_values c.args.p.now g c.in-Model.solution.values.values c.requires.ground found.model.sorted ∙ sym (ap length c.constants.ensures.constants)
+    subst (λ (ss : List Sort). AreOfSorts ss c.in-Model.solution.values.values) (sym c.requires.sorts) found.model.sorted
+
+pub structure-requires-clause-small : goal.structure-requires-clause-small
+structure-requires-clause-small c = λ n at.
+    let g = c.args.g.now in
+    let found = subst (λ f. IsFound (sorts g.names) g.lines c.args.most false f) c.in-Model.is c.requires.found in
+    let small = found.model.small n (ap (λ (ss : List Sort). slice_get ss n) (sym c.requires.sorts) ∙ at) in
+    record { low = small.low; high = small.high }
 
 pub returns-in-Ok : goal.returns-in-Ok
 returns-in-Ok c =
     let g = c.args.g.now in
     let found = subst (λ f. IsFound (sorts g.names) g.lines c.args.most false f) c.in-Model.is c.requires.found in
     sat_from c.args.p.now g c.in-Model.solution.path c.in-Model.solution.values c.in-Ok.structure c.requires.ground c.requires.scope found.model
-    (c.in-Ok.ensures ∙ ap (λ (names : List (List ℕ)). structure_of names c.in-Model.solution.values.values) (ap (map constant_name) c.constants.ensures.constants ∙ ground_names c.args.p.now g c.requires.ground))
+    c.in-Ok.ensures
 
 pub entries-requires-clause-named : goal.entries-requires-clause-named
-entries-requires-clause-named c = ground_named c.args.p.now c.args.g.now c.requires.ground
+entries-requires-clause-named c = names_named c.args.g.now.names c.requires.names.fit
 
 pub entries-requires-clause-splits : goal.entries-requires-clause-splits
 entries-requires-clause-splits c =
@@ -47,7 +65,7 @@ returns-in-Ok-entries c =
     }
 
 pub entries-requires-in-Spent-clause-named : goal.entries-requires-in-Spent-clause-named
-entries-requires-in-Spent-clause-named c = ground_named c.args.p.now c.args.g.now c.requires.ground
+entries-requires-in-Spent-clause-named c = names_named c.args.g.now.names c.requires.names.fit
 
 pub entries-requires-in-Spent-clause-splits : goal.entries-requires-in-Spent-clause-splits
 entries-requires-in-Spent-clause-splits c =

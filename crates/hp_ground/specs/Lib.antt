@@ -1,4 +1,0 @@
-pub mod Ground
-pub mod Lines
-pub mod Laws
-pub mod Answers

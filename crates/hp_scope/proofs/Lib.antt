@@ -1,5 +1,0 @@
-pub mod Names
-pub mod Terms
-pub mod Atoms
-pub mod Clauses
-pub mod Scope
