@@ -120,6 +120,21 @@ def num_choices(rng, count):
     return lines
 
 
+def applications(count):
+    """A function at so many constants, with different values."""
+    names = ", ".join(f"c{at}" for at in range(count))
+    values = [f"query f(c{at}) = {at};" for at in range(count)]
+    return [f"const {names}: num;", "fun f(num): num level 1;"] + values
+
+
+def function_chain(count):
+    """Each constant is a function of the one before, the first two are equal, and the last is another."""
+    names = ", ".join(f"c{at}" for at in range(count + 1))
+    steps = [f"query c{at + 1} = f(c{at});" for at in range(count)]
+    ends = ["query c1 = c0;", f"query c{count} != c0;"]
+    return [f"const {names}: num;", "fun f(num): num level 1;"] + steps + ends
+
+
 def main():
     rng = random.Random(7)
     write("clauses.hp", clauses())
@@ -143,6 +158,10 @@ def main():
     write("num-chain.hp", num_chain(60, False))
     write("num-ring.hp", num_chain(60, True))
     write("num-choices.hp", num_choices(random.Random(5), 5))
+    for count in (20, 40, 300):
+        write(f"applications-{count}.hp", applications(count))
+    for count in (10, 15, 300):
+        write(f"function-chain-{count}.hp", function_chain(count))
     for jobs in (4, 5, 6, 7):
         write(f"machine-{jobs}-fits.hp", one_machine(rng, jobs, 0))
         write(f"machine-{jobs}-late.hp", one_machine(rng, jobs, -1))

@@ -110,6 +110,37 @@ fn constants(alloc: Global, count: u32, sort: &str) -> Result<(String, String), 
     Ok((text, values))
 }
 
+/// A function at so many arguments, each inside so many more applications, all of which are 0.
+fn applications(alloc: Global, count: u32, depth: u32) -> Result<String, AllocError> {
+    let mut text = String::from_str(alloc, "fun f(num): num level 1;")?;
+    for at in 0..count {
+        text.push_str("query ")?;
+        for _ in 0..depth {
+            text.push_str("f(")?;
+        }
+        text.push_str(format!(in alloc; "f({at})")?.as_str())?;
+        for _ in 0..depth {
+            text.push_str(")")?;
+        }
+        text.push_str(" = 0;")?;
+    }
+    Ok(text)
+}
+
+/// Too many definitions, and too many lines of two applications of one function.
+#[test]
+fn many_applications(rt: HostRuntime) -> Result<(), Fail> {
+    let names = applications(rt.alloc(), 1_334, 2)?;
+    let (found, written) = answer(rt.alloc(), "solve", names.as_bytes())?;
+    assert_eq!(rt; found, 8);
+    assert_eq!(rt; written.as_slice(), b"limit names 4000\n".as_slice());
+    let lines = applications(rt.alloc(), 316, 0)?;
+    let (found, written) = answer(rt.alloc(), "solve", lines.as_bytes())?;
+    assert_eq!(rt; found, 8);
+    assert_eq!(rt; written.as_slice(), b"limit lines 50000\n".as_slice());
+    Ok(())
+}
+
 #[test]
 fn many_constants(rt: HostRuntime) -> Result<(), Fail> {
     for sort in ["idx", "num"] {

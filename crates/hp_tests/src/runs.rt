@@ -68,7 +68,7 @@ const FAULTS: [Run; 17] = [
 ];
 
 /// Names and sorts, limits of the text, and forms that aren't decided yet, the first cause in their order.
-const REFUSALS: [Run; 19] = [
+const REFUSALS: [Run; 18] = [
     ("solve", TRAINS, 13, "not built\n"),
     ("solve", "const c: num; const c: idx;", 6, "sort 2 twice\n"),
     ("solve", "query c < 0;", 6, "sort 1 unknown\n"),
@@ -109,20 +109,25 @@ const REFUSALS: [Run; 19] = [
         8,
         "limit arguments 4\n",
     ),
-    ("solve", "fun f(num): num level 1;", 13, "not built\n"),
     (
         "solve",
         "const i: idx; clause [x:idx] x < i;",
         13,
         "not built\n",
     ),
-    ("solve", "const u: ptr;", 13, "not built\n"),
-    ("solve", "query null = null;", 13, "not built\n"),
+    ("solve", "clause [p:ptr] p = null;", 13, "not built\n"),
     (
         "solve",
-        "const c: num; query 2 * c <= 3 -> null != null;",
+        "fun f(num): num level 1; clause [x:num] f(x) = 0; query f(1) < 0;",
         13,
         "not built\n",
+    ),
+    // the argument's form is too wide, in the clause that has it, and then a line of congruence, in the function
+    (
+        "solve",
+        "const c: num; fun f(num): num level 1; query c = 0; query f(999999999999999999 * (999999999999999999 * (999999999999999999 * c))) = 0;",
+        8,
+        "limit coefficient item 4\n",
     ),
     (
         "solve",
@@ -184,7 +189,7 @@ const PRINTED: [Run; 6] = [
 ];
 
 /// Verdicts that have one text.
-const VERDICTS: [Run; 10] = [
+const VERDICTS: [Run; 19] = [
     ("solve", "", 10, EMPTY),
     (
         "solve",
@@ -233,6 +238,55 @@ const VERDICTS: [Run; 10] = [
         "const i: idx; query i < 5 -> false; query i <= 0 | i = 5;",
         10,
         "satisfiable\nuniverse 1\nconst i = 5\n",
+    ),
+    ("solve", "query null = null;", 10, EMPTY),
+    (
+        "solve",
+        "fun f(num): num level 16; fun g(num): num level 1;",
+        10,
+        "satisfiable\nuniverse 1\nfun f/1\nelse 0\nend\nfun g/1\nelse 0\nend\n",
+    ),
+    (
+        "solve",
+        "fun f(num, idx): num level 1; query f(1/2, 3) = -5; query f(1/2, 4) = 7;",
+        10,
+        "satisfiable\nuniverse 1\nfun f/2\n$1 = 1/2 & $2 = 3 -> -5\n$1 = 1/2 & $2 = 4 -> 7\nelse 0\nend\n",
+    ),
+    (
+        "solve",
+        "const c: num; fun f(num): num level 1; query c = 2; query f(c) = 3; query f(2) = 3;",
+        10,
+        "satisfiable\nuniverse 1\nconst c = 2\nfun f/1\n$1 = 2 -> 3\nelse 0\nend\n",
+    ),
+    (
+        "solve",
+        "const u: ptr; fun n(ptr): ptr level 2; query n(u) = null; query n(null) = u; query u != null;",
+        10,
+        "satisfiable\nuniverse 2\nconst u = 1\nfun n/1\n$1 = 1 -> 0\n$1 = 0 -> 1\nelse 0\nend\n",
+    ),
+    (
+        "solve",
+        "const u: ptr; query u != null;",
+        10,
+        "satisfiable\nuniverse 2\nconst u = 1\n",
+    ),
+    (
+        "solve",
+        "const u, v: ptr; query u != null; query u = v;",
+        10,
+        "satisfiable\nuniverse 2\nconst u = 1\nconst v = 1\n",
+    ),
+    (
+        "solve",
+        "const u: ptr; query u != u;",
+        20,
+        "unsatisfiable\nline 1 clause 1: u != u\nsplit 1\nleaf ptr 1:\n",
+    ),
+    (
+        "solve",
+        "const u: ptr; const i: idx; const c: num; query u = null -> i = 1; query i = 2; query c = 1/2;",
+        10,
+        "satisfiable\nuniverse 2\nconst u = 1\nconst i = 2\nconst c = 1/2\n",
     ),
     (
         "solve --nodes 1",

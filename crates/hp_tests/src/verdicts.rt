@@ -8,7 +8,7 @@ use std::test::Fail;
 /// Words, a text, the status, and the texts of which one is written.
 type Choice = (&'static str, &'static str, u8, &'static [&'static str]);
 
-const CHOICES: [Choice; 5] = [
+const CHOICES: [Choice; 6] = [
     // two bounds that conflict: either may be split first, and the cycle may begin at either
     (
         "solve",
@@ -49,6 +49,16 @@ const CHOICES: [Choice; 5] = [
             "unsatisfiable\nline 1 clause 1: c = 3\nline 2 clause 2: c < 3\nsplit 2\nsplit 1\nleaf num 1:1 2:-1\n",
         ],
     ),
+    // either line may be split first
+    (
+        "solve",
+        "const u, v: ptr; query u = v; query u != v;",
+        20,
+        &[
+            "unsatisfiable\nline 1 clause 1: u = v\nline 2 clause 2: u != v\nsplit 1\nsplit 2\nleaf ptr 2: 1\n",
+            "unsatisfiable\nline 1 clause 1: u = v\nline 2 clause 2: u != v\nsplit 2\nsplit 1\nleaf ptr 1: 2\n",
+        ],
+    ),
     (
         "solve",
         "const i: idx; query i != i;",
@@ -74,7 +84,7 @@ fn verdicts_with_several_texts(rt: HostRuntime) -> Result<(), Fail> {
 /// A text, the status, and the front of what is written.
 type Front = (&'static str, u8, &'static str);
 
-const FRONTS: [Front; 29] = [
+const FRONTS: [Front; 41] = [
     (
         "const i: idx;\nconst j: idx;\nquery i <= j - 1;\nquery j <= i - 1;\n",
         20,
@@ -203,6 +213,67 @@ const FRONTS: [Front; 29] = [
         "",
     ),
     ("const i: idx; query i = 0 -> i = 1; query i = 0;", 20, ""),
+    ("const u: ptr;", 10, "satisfiable\nuniverse "),
+    // equal arguments have equal values, also where they are written in other words
+    (
+        "const c, d: num; fun f(num): num level 1; query c = d; query f(c) < f(d);",
+        20,
+        "unsatisfiable\ndef _1 = f(c)\ndef _2 = f(d)\nline 1 clause 1: c - d = 0\nline 2 clause 2: _1 - _2 < 0\nline 3 equal _1, _2: c - d < 0 | -c + d < 0 | _1 - _2 = 0\nsplit ",
+    ),
+    (
+        "const u, v: ptr; fun n(ptr): ptr level 2; query u = v; query n(u) != n(v);",
+        20,
+        "unsatisfiable\ndef _1 = n(u)\ndef _2 = n(v)\nline 1 clause 1: u = v\nline 2 clause 2: _1 != _2\nline 3 equal _1, _2: u != v | _1 = _2\nsplit ",
+    ),
+    (
+        "const c: num; fun f(num): num level 1; query f(c + 1) = 0;",
+        10,
+        "satisfiable\nuniverse 1\nconst c = ",
+    ),
+    // each argument is whole before the next, inner before outer, the line of a sum at once
+    (
+        "const c, d: num; fun g(num): num level 1; fun f(num, num): num level 2; query f(g(c) + 1, g(d) + 1) < 0; query f(1 + g(c), 1 + g(d)) >= 0;",
+        20,
+        "unsatisfiable\ndef _1 = g(c)\ndef _2 = _1 + 1\ndef _3 = g(d)\ndef _4 = _3 + 1\ndef _5 = f(_2, _4)\nline ",
+    ),
+    // one definition for equal arguments
+    (
+        "const c: num; fun f(num): num level 1; query f(c + 1) < 0; query f(1 + c) > 0;",
+        20,
+        "unsatisfiable\ndef _1 = c + 1\ndef _2 = f(_1)\nline 2 clause 1: _2 < 0\nline 3 clause 2: -_2 < 0\nsplit ",
+    ),
+    // arguments of all sorts
+    (
+        "const c: num; const i, j: idx; const u, v: ptr; fun f(num, idx, ptr): idx level 1; query i = j + 1; query u = v; query f(c, i, u) < f(c, j + 1, v);",
+        20,
+        "unsatisfiable\n",
+    ),
+    (
+        "const c: num; const i, j: idx; const u, v: ptr; fun f(num, idx, ptr): idx level 1; query i = j + 1; query u = v; query f(c, i, u) < f(c, j, v);",
+        10,
+        "satisfiable\n",
+    ),
+    // a chain of applications, the last of which comes back to the first
+    (
+        "const a: num; fun f(num): num level 1; query f(f(f(a))) = a; query f(f(f(f(f(a))))) = a; query f(a) != a;",
+        20,
+        "unsatisfiable\n",
+    ),
+    (
+        "const c: num; query 2 * c <= 3 -> null != null;",
+        10,
+        "satisfiable\nuniverse 1\nconst c = ",
+    ),
+    (
+        "const u, v, w: ptr; query u = v | u = w; query v != u; query w != u;",
+        20,
+        "unsatisfiable\nline 1 clause 1: u = v | u = w\n",
+    ),
+    (
+        "const u, v, w: ptr; query u != null; query v != u; query w != u; query w != v; query v = null | w = null;",
+        10,
+        "satisfiable\nuniverse 3\nconst u = ",
+    ),
 ];
 
 #[test]
