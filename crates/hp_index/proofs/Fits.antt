@@ -14,7 +14,8 @@ use Rattle.hp_index.specs.declared.form.IndexForm.{IndexForm}
 use Rattle.hp_index.specs.Forms.{index_of}
 use Rattle.hp_index.specs.Fit.{IsFormOver}
 use Rattle.hp_index.specs.Laws.{FormLiteralsAreFit, LiteralsAreFit, PtrLiteralsAreFit, TermsHaveFitForms}
-use Rattle.hp_index.specs.Literals.{cancel, compared, signed}
+use Rattle.hp_tree.specs.Sides.{signed}
+use Rattle.hp_index.specs.Literals.{cancel, compared}
 use Rattle.hp_index.specs.Pointers.{asks_same, pointer_of}
 use Rattle.hp_index.proofs.Bounds.{compared_small, small_offset}
 use Rattle.hp_index.proofs.Named.{pointer_side, term_base}

@@ -10,7 +10,8 @@ use Rattle.hp_lit.specs.declared.literal.Lit.{Lit}
 use Rattle.hp_index.specs.declared.form.IndexForm.{IndexForm}
 use Rattle.hp_index.specs.Forms.{index_of}
 use Rattle.hp_index.specs.Fit.{HasSmallBound}
-use Rattle.hp_index.specs.Literals.{form_literals, literals, signed}
+use Rattle.hp_tree.specs.Sides.{signed}
+use Rattle.hp_index.specs.Literals.{form_literals, literals}
 use Rattle.hp_index.proofs.Bounds.{literals_small, small_offset}
 
 -- ---- terms

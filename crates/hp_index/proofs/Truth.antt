@@ -10,7 +10,7 @@ use Rattle.hp_tree.specs.declared.problem.Sort.{Sort}
 use Rattle.hp_tree.specs.declared.problem.Sort.TheVariants.{Idx, Ptr}
 use Rattle.hp_tree.specs.declared.problem.Atom.{Atom}
 use Rattle.hp_tree.specs.Value.{Word, compares}
-use Rattle.hp_tree.proofs.Compares.{le_ℚ-from, lt_ℚ-from, eq_ℚ-from, eq_ℚ-true, less_differs, more_differs, not_true, one_less, compares-negated, is_true}
+use Rattle.hp_tree.proofs.Compares.{le_ℚ-from, lt_ℚ-from, eq_ℚ-from, eq_ℚ-true, less_differs, more_differs, not_true, one_less, compares-signed, is_true}
 use Rattle.hp_terms.specs.Sorting.{forms_of, has_form, is_equation, is_sorted, relates}
 use Rattle.hp_lit.specs.declared.literal.Name.{Name}
 use Rattle.hp_lit.specs.declared.literal.Rel.{Rel}
@@ -22,7 +22,8 @@ use Rattle.hp_lit.specs.Words.{scope_over}
 use Rattle.hp_index.specs.declared.form.IndexForm.{IndexForm}
 use Rattle.hp_index.specs.Forms.{index_of}
 use Rattle.hp_index.specs.Laws.{FormLiteralsCompare, LiteralsAreTrueWithAtoms, PtrLiteralsAreTrueWithAtoms}
-use Rattle.hp_index.specs.Literals.{cancel, compared, form_literals, literals, signed}
+use Rattle.hp_tree.specs.Sides.{signed}
+use Rattle.hp_index.specs.Literals.{cancel, compared, form_literals, literals}
 use Rattle.hp_index.specs.Pointers.{asks_same, pointer_of, ptr_literals}
 use Rattle.hp_index.specs.Values.{form_value}
 use Rattle.hp_index.proofs.Named.{term_base}
@@ -113,11 +114,9 @@ form_literals_compare sorts v cmp l m have left right =
 module _ {P : Type 0} (cmp : Cmp) (a b : ℚ) where
   -- what is true where a relation or its negation is, is true where the relation is true or false
   signed_truth : (positive : Bool) → P ↔ (compares (signed positive cmp) a b ≡ true) → P ↔ (compares cmp a b ≡ positive)
-  signed_truth true h = h
-  signed_truth false h = (
-    λ p. not_true (compares cmp a b) (sym (compares-negated cmp a b) ∙ h.0 p),
-    λ e. h.1 (compares-negated cmp a b ∙ ap not e),
-  )
+  signed_truth positive h =
+      let is = compares-signed positive cmp a b in
+      (λ p. is.0 (h.0 p), λ e. h.1 (is.1 e))
 
 -- an atom of a sort has two sides of that sort, and a relation on it
 pub record IsSorted (words : List Word) (sorts : List Sort) (s : Sort) (atom : Atom) : Type 0 where

@@ -3,7 +3,7 @@ use Rattle.std.specs.Prelude.{◌==◌, Bool, true, false, if◌then◌else◌, 
 use Rattle.hp_tree.specs.declared.problem.Cmp.{Cmp}
 use Rattle.hp_tree.specs.declared.problem.Cmp.TheVariants.{Le, Lt, Eq, Ne, Ge, Gt}
 use Rattle.hp_tree.specs.declared.problem.Atom.{Atom}
-use Rattle.hp_tree.specs.Sides.{negated}
+use Rattle.hp_tree.specs.Sides.{signed}
 use Rattle.hp_tree.specs.Value.{Word}
 use Rattle.hp_lit.specs.declared.literal.Name.{Name}
 use Rattle.hp_lit.specs.declared.literal.Rel.{Rel}
@@ -52,11 +52,6 @@ form_literals Ge left right = Idx (compared rel.Le right left) ∷ []
 form_literals Gt left right = Idx (compared rel.Lt right left) ∷ []
 
 -- ---- atoms
--- the relation that holds where an atom is true, or, of the other sign, false
-abbrev pub signed : Bool → Cmp → Cmp
-signed true cmp = cmp
-signed false cmp = negated cmp
-
 -- the literals over these words of an atom that is to be true, or, of the other sign, false
 abbrev pub literals : List Word → Bool → Atom → List Lit
 literals words positive atom = form_literals (signed positive atom.cmp) (index_of words atom.left) (index_of words atom.right)

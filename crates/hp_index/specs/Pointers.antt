@@ -10,7 +10,7 @@ use Rattle.hp_lit.specs.declared.literal.Name.{Name}
 use Rattle.hp_lit.specs.declared.literal.Lit.{Lit}
 use Rattle.hp_lit.specs.declared.literal.Lit.TheVariants.{Ptr}
 use Rattle.hp_lit.specs.Words.{number}
-use Rattle.hp_index.specs.Literals.{signed}
+use Rattle.hp_tree.specs.Sides.{signed}
 
 -- a word that is none of these, and what is no pointer term, is null
 abbrev pub pointer_step : List Word → Term-F (Option Name) → Option Name

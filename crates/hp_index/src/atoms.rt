@@ -1,7 +1,6 @@
 //! The literals of atoms of sort idx.
 
-ghost use Rattle.std.specs.Prelude.{◌≡◌, ◌<◌, ◌^◌, length};
-ghost use Rattle.hp_index.specs.Literals.{signed};
+ghost use Rattle.std.specs.Prelude.{◌<◌, ◌^◌, length};
 ghost use Rattle.hp_index.specs.Answers.{AtomPushed};
 
 use crate::compare::form_literals;
@@ -9,14 +8,7 @@ use crate::form::index_form;
 use hp_lit::{Lit, Refusal};
 use hp_names::NameIndex;
 use hp_num::List;
-use hp_tree::{Atom, Cmp, negated};
-
-/// The relation that holds where an atom is true, or, where it is not positive, false.
-pub fn signed(positive: bool, cmp: Cmp) -> Cmp
-    ensures { result ≡ signed positive cmp }
-{
-    if positive { cmp } else { negated(cmp) }
-}
+use hp_tree::{Atom, signed};
 
 /// Adds the literals of an atom of sort idx behind those that are there: one of them is true where the atom is true if
 /// `positive`, and where it is false if not. They compare the forms of the two sides (`index_form`, `form_literals`). The

@@ -19,4 +19,4 @@ pub use laws::{
     terms_have_fit_forms, terms_have_fit_pointers, terms_have_form_values,
     terms_have_pointer_values,
 };
-pub use pointers::{pointer, pointer_literals};
+pub use pointers::{asks_same, pointer, pointer_literals};

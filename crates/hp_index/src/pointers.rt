@@ -4,12 +4,11 @@ ghost use Rattle.std.specs.Prelude.{◌≡◌, ◌<◌, ◌^◌, length};
 ghost use Rattle.hp_index.specs.Pointers.{asks_same, pointer_of, ptr_literals};
 ghost use Rattle.hp_index.specs.Answers.{Pushed};
 
-use crate::atoms::signed;
 use crate::words::name_of;
 use hp_lit::{Lit, Name, PtrLit};
 use hp_names::NameIndex;
 use hp_num::List;
-use hp_tree::{Atom, Cmp, Term};
+use hp_tree::{Atom, Cmp, Term, signed};
 use std::alloc::AllocError;
 
 /// The name of a pointer term over these words, by its place among them from 0, or `None` for null.
@@ -33,7 +32,7 @@ pub fn pointer(index: &NameIndex, term: &Term) -> Option<Name>
 }
 
 /// Whether a relation of pointers is that of equal ones. One that orders numbers is none of pointers.
-fn asks_same(cmp: Cmp) -> bool
+pub fn asks_same(cmp: Cmp) -> bool
     ensures { result ≡ asks_same cmp }
 {
     match cmp {

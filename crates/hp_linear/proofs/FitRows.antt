@@ -29,7 +29,8 @@ use Rattle.hp_linear.specs.declared.wholes.Row.{Row}
 use Rattle.hp_linear.specs.Steps.{behind}
 use Rattle.hp_linear.specs.Lins.{lin_of, minus_lin}
 use Rattle.hp_linear.specs.Wholes.{denominator_of, lowest_row, one_if_zero, over, row_divisor, row_of, row_over, row_with, scaled_number, scaled_parts, scaled_row, whole_copies}
-use Rattle.hp_linear.specs.Literals.{apart_literals, compared, lin_literals, one_literal, row_literal, signed}
+use Rattle.hp_tree.specs.Sides.{signed}
+use Rattle.hp_linear.specs.Literals.{apart_literals, compared, lin_literals, one_literal, row_literal}
 use Rattle.hp_linear.specs.Fit.{LitHasNoZeros}
 use Rattle.hp_linear.specs.Laws.{LinLiteralsAreFit, LiteralsAreFit}
 use Rattle.hp_linear.proofs.Refusals.{ok_same}

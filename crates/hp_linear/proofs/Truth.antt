@@ -13,10 +13,11 @@ use Rattle.hp_lit.specs.declared.literal.Lit.{Lit}
 use Rattle.hp_lit.specs.Truth.{Values, Compares, LineIsTrue}
 use Rattle.hp_lit.specs.Words.{scope_over}
 use Rattle.hp_tree.specs.Value.{compares}
-use Rattle.hp_tree.proofs.Compares.{eq_ℚ-from, eq_ℚ-true, le_ℚ-from, less_differs, lt_ℚ-from, more_differs, not_true, one_less, compares-negated}
+use Rattle.hp_tree.proofs.Compares.{eq_ℚ-from, eq_ℚ-true, le_ℚ-from, less_differs, lt_ℚ-from, more_differs, not_true, one_less, compares-signed}
 use Rattle.hp_lit.specs.declared.line.Lin.{Lin}
 use Rattle.hp_linear.specs.Lins.{lin_of}
-use Rattle.hp_linear.specs.Literals.{apart_literals, compared, lin_literals, one_literal, signed}
+use Rattle.hp_tree.specs.Sides.{signed}
+use Rattle.hp_linear.specs.Literals.{apart_literals, compared, lin_literals, one_literal}
 use Rattle.hp_linear.specs.Values.{Stands, lin_value}
 use Rattle.hp_linear.specs.Laws.{LinLiteralsCompare, LiteralsAreTrueWithAtoms}
 use Rattle.hp_linear.proofs.Comparisons.{and_then, turned}
@@ -98,17 +99,6 @@ pub lin_literals_compare : LinLiteralsCompare
 lin_literals_compare v cmp left right lits e = and_then (literals_say v cmp left right lits e) (test_stands cmp (lin_value v left) (lin_value v right))
 
 -- ---- atoms
-not_is : (b : Bool) → (not b ≡ true) ↔ (b ≡ false)
-not_is true = (λ e. absurd (cc), λ e. absurd (cc))
-not_is false = (λ e. refl, λ e. refl)
-
-signed_says : (positive : Bool) (cmp : Cmp) (a b : ℚ) → (compares (signed positive cmp) a b ≡ true) ↔ (compares cmp a b ≡ positive)
-signed_says true cmp a b = (λ e. e, λ e. e)
-signed_says false cmp a b =
-    let same = compares-negated cmp a b in
-    let is = not_is (compares cmp a b) in
-    (λ e. is.0 (sym same ∙ e), λ e. same ∙ is.1 e)
-
 pub literals_are_true_with_atoms : LiteralsAreTrueWithAtoms
 literals_are_true_with_atoms words sorts v env functions positive atom lits agrees sorted e =
     let scope = scope_over words sorts in
@@ -120,4 +110,4 @@ literals_are_true_with_atoms words sorts v env functions positive atom lits agre
     let right = terms_have_lin_values words sorts v env functions atom.right two.value agrees sides.1 two.first in
     and_then (literals_say v cmp one.value two.value lits two.rest)
     (subst (λ (b : Bool). (compares cmp (lin_value v one.value) (lin_value v two.value) ≡ true) ↔ (b ≡ positive)) (λ i. compares atom.cmp (sym left i) (sym right i))
-    (signed_says positive atom.cmp (lin_value v one.value) (lin_value v two.value)))
+    (compares-signed positive atom.cmp (lin_value v one.value) (lin_value v two.value)))

@@ -4,7 +4,7 @@ use Rattle.hp_num.specs.Wide.{◌>>=◌}
 use Rattle.hp_tree.specs.declared.problem.Cmp.{Cmp}
 use Rattle.hp_tree.specs.declared.problem.Cmp.TheVariants.{Le, Lt, Eq, Ne, Ge, Gt}
 use Rattle.hp_tree.specs.declared.problem.Atom.{Atom}
-use Rattle.hp_tree.specs.Sides.{negated}
+use Rattle.hp_tree.specs.Sides.{signed}
 use Rattle.hp_tree.specs.Value.{Word}
 use Rattle.hp_lit.specs.declared.literal.Rel.{Rel}
 use Rattle.hp_lit.specs.declared.literal.Rel.TheVariants as rel
@@ -42,11 +42,6 @@ lin_literals Ge left right = one_literal rel.Le right left
 lin_literals Gt left right = one_literal rel.Lt right left
 
 -- ---- atoms
--- the relation that holds where an atom is true, or, of the other sign, false
-abbrev pub signed : Bool → Cmp → Cmp
-signed true cmp = cmp
-signed false cmp = negated cmp
-
 -- the literals over these words of an atom that is to be true, or, of the other sign, false
 abbrev pub literals : List Word → Bool → Atom → Refusable (List Lit)
 literals words positive atom =

@@ -1,8 +1,7 @@
 //! The literals of atoms of sort num.
 
-ghost use Rattle.std.specs.Prelude.{◌≡◌, ◌≤◌, length};
-ghost use Rattle.hp_tree.specs.Limits.{most_names};
-ghost use Rattle.hp_linear.specs.Literals.{literals, signed};
+ghost use Rattle.std.specs.Prelude.{◌≡◌, ◌<◌, ◌^◌, length};
+ghost use Rattle.hp_linear.specs.Literals.{literals};
 ghost use Rattle.hp_linear.specs.Answers.{Pushed};
 
 use crate::compare::lin_literals;
@@ -10,15 +9,8 @@ use crate::terms::linear_form;
 use hp_lit::{Lit, Refusal};
 use hp_names::NameIndex;
 use hp_num::List;
-use hp_tree::{Atom, Cmp, negated};
+use hp_tree::{Atom, signed};
 use std::alloc::Global;
-
-/// The relation that holds where an atom is true, or, where it is not positive, false.
-fn signed(positive: bool, cmp: Cmp) -> Cmp
-    ensures { result ≡ signed positive cmp }
-{
-    if positive { cmp } else { negated(cmp) }
-}
 
 /// Adds the literals of an atom of sort num behind those that are there: one of them is true where the atom is true if
 /// `positive`, and where it is false if not. For `l <= r` that is the literal `l <= r`, or `r < l`; for `l < r` the
@@ -29,7 +21,7 @@ fn signed(positive: bool, cmp: Cmp) -> Cmp
 /// A literal's parts are in the order of names, without a common divisor of all its numbers. `Wide` comes at the first
 /// number of the computation, left before right and inner before outer, that has a magnitude above 2^127 - 1; then
 /// nothing is added. At `Memory` the first of two literals may be there, and what was there before still is. It asks for
-/// at most 4,000 words.
+/// fewer than 2^28 words.
 pub fn literals(
     alloc: Global,
     index: &NameIndex,
@@ -37,7 +29,7 @@ pub fn literals(
     atom: &Atom,
     lits: &mut List<Lit>,
 ) -> Result<(), Refusal>
-    requires { length index.now ≤ most_names }
+    requires { length index.now < 2 ^ 28 }
     ensures { Pushed (literals index.now positive atom.now) lits.old lits.new result }
 {
     let left = linear_form(alloc, index, &atom.left)?;

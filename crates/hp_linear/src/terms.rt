@@ -1,7 +1,6 @@
 //! The linear form of a term, from inside out, the left operand first.
 
-ghost use Rattle.std.specs.Prelude.{◌≡◌, ◌≤◌, length};
-ghost use Rattle.hp_tree.specs.Limits.{most_names};
+ghost use Rattle.std.specs.Prelude.{◌≡◌, ◌<◌, ◌^◌, length};
 ghost use Rattle.hp_lit.specs.Words.{number};
 ghost use Rattle.hp_linear.specs.Lins.{lin_of};
 ghost use Rattle.hp_linear.specs.Answers.{Answers};
@@ -14,7 +13,7 @@ use std::alloc::Global;
 
 /// The name that a word stands for, by its place among the words.
 fn place(index: &NameIndex, word: &[u8]) -> Option<Name>
-    requires { length index.now ≤ most_names }
+    requires { length index.now < 2 ^ 28 }
     ensures { result ≡ number index.now word.now }
 {
     match index.position(word) {
@@ -27,9 +26,9 @@ fn place(index: &NameIndex, word: &[u8]) -> Option<Name>
 /// other word count as 0.
 ///
 /// `Wide` comes at the first number of the computation, left before right and inner before outer, that has a magnitude
-/// above 2^127 - 1. It asks for at most 4,000 words.
+/// above 2^127 - 1. It asks for fewer than 2^28 words.
 pub fn linear_form(alloc: Global, index: &NameIndex, term: &Term) -> Result<Lin, Refusal>
-    requires { length index.now ≤ most_names }
+    requires { length index.now < 2 ^ 28 }
     ensures { Answers (lin_of index.now term.now) result }
 {
     match term {

@@ -4,12 +4,14 @@
 ghost use Rattle.hp_lit.specs.Cycle.{NoIdxLeaf};
 ghost use Rattle.hp_lit.specs.Leaf.{NoNumLeaf};
 
+mod limited;
 mod line;
 mod literal;
 mod proof;
 mod refusal;
 mod valuation;
 
+pub use limited::{coefficient, many_lines, many_names};
 pub use line::{Arg, Body, Def, Lin, LinPart, Line, Origin};
 pub use literal::{IdxLit, Lit, Name, NumLit, Part, PtrLit, Rel};
 pub use proof::{Choice, Share, Step};

@@ -1,5 +1,5 @@
--- The tests of two fractions, and what a side of a clause asks of them.
-use Rattle.std.proofs.Common.{◌≡◌, ◌⊎◌, Bool, true, false, not, ◌&&◌, nat_eq, refl, sym, ap, subst, ◌∙◌, inl, inr}
+-- The tests of two fractions, and of relations that are to be true or false.
+use Rattle.std.proofs.Common.{◌≡◌, ◌↔◌, ◌⊎◌, Bool, true, false, not, ◌&&◌, nat_eq, refl, sym, ap, subst, ◌∙◌, inl, inr}
 use Rattle.std.specs.Ordering.{int_eq}
 use Rattle.std.proofs.lemmas.Bool.{eqb-true, eq-eqb}
 use Rattle.std.proofs.lemmas.Bool.Decides.{Decides-int_eq}
@@ -8,10 +8,8 @@ use Rattle.hp_math.proofs.Rational.{ratio-parts}
 use Rattle.hp_math.proofs.Field.{≤ℚ_refl, ≤ℚ_antisym, <ℚ_irrefl, le_ℚ-true, le_ℚ-false, lt_ℚ-true, lt_ℚ-false}
 use Rattle.hp_tree.specs.declared.problem.Cmp.{Cmp}
 use Rattle.hp_tree.specs.declared.problem.Cmp.TheVariants.{Le, Lt, Eq, Ne, Ge, Gt}
-use Rattle.hp_tree.specs.declared.sides.Side.{Side}
-use Rattle.hp_tree.specs.declared.sides.Side.TheVariants.{Guard, Head}
 use Rattle.hp_tree.specs.Value.{compares}
-use Rattle.hp_tree.specs.Sides.{asked, negated, taken}
+use Rattle.hp_tree.specs.Sides.{negated, signed}
 
 is_false : (a : Bool) → (a ≡ true → ⊥) → a ≡ false
 is_false true h = absurd (h refl)
@@ -76,6 +74,17 @@ compares-negated Ne a b = not_not (eq_ℚ a b)
 compares-negated Ge a b = not_le b a
 compares-negated Gt a b = not_lt b a
 
+not_is : (b : Bool) → (not b ≡ true) ↔ (b ≡ false)
+not_is true = (λ e. absurd (cc), λ e. absurd (cc))
+not_is false = (λ e. refl, λ e. refl)
+
+pub compares-signed : (positive : Bool) (cmp : Cmp) (a b : ℚ) → (compares (signed positive cmp) a b ≡ true) ↔ (compares cmp a b ≡ positive)
+compares-signed true cmp a b = (λ e. e, λ e. e)
+compares-signed false cmp a b =
+    let same = compares-negated cmp a b in
+    let is = not_is (compares cmp a b) in
+    (λ e. is.0 (sym same ∙ e), λ e. same ∙ is.1 e)
+
 -- ---- numbers that differ
 pub not_true : (x : Bool) → not x ≡ true → x ≡ false
 not_true true e = absurd (cc)
@@ -94,8 +103,3 @@ less_differs a b h = ap not (is_false (eq_ℚ a b) (λ t. <ℚ_irrefl a b h (sub
 
 pub more_differs : (a b : ℚ) → b <ℚ a → not (eq_ℚ a b) ≡ true
 more_differs a b h = ap not (is_false (eq_ℚ a b) (λ t. <ℚ_irrefl b a h (subst (λ x. x ≤ℚ b) (sym (eq_ℚ-true a b t)) (≤ℚ_refl b))))
-
--- what a side asks of an atom
-pub taken_asks : (side : Side) (cmp : Cmp) (a b : ℚ) → compares (taken side cmp) a b ≡ asked side (compares cmp a b)
-taken_asks Guard cmp a b = compares-negated cmp a b
-taken_asks Head cmp a b = refl

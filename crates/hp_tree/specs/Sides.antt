@@ -1,9 +1,7 @@
--- What a side of a clause asks of an atom.
-use Rattle.std.specs.Prelude.{Bool, not}
+-- The relations of atoms that are to be true or false.
+use Rattle.std.specs.Prelude.{Bool, true, false}
 use Rattle.hp_tree.specs.declared.problem.Cmp.{Cmp}
 use Rattle.hp_tree.specs.declared.problem.Cmp.TheVariants.{Le, Lt, Eq, Ne, Ge, Gt}
-use Rattle.hp_tree.specs.declared.sides.Side.{Side}
-use Rattle.hp_tree.specs.declared.sides.Side.TheVariants.{Guard, Head}
 
 -- the relation that holds where this one does not
 abbrev pub negated : Cmp → Cmp
@@ -14,12 +12,7 @@ negated Ne = Eq
 negated Ge = Lt
 negated Gt = Le
 
--- an atom of the guard stands for its negation
-abbrev pub taken : Side → Cmp → Cmp
-taken Guard cmp = negated cmp
-taken Head cmp = cmp
-
--- an atom of the head is to be true, and one of the guard false
-abbrev pub asked : Side → Bool → Bool
-asked Guard truth = not truth
-asked Head truth = truth
+-- the relation that holds where an atom is true, or, of the other sign, false
+abbrev pub signed : Bool → Cmp → Cmp
+signed true cmp = cmp
+signed false cmp = negated cmp

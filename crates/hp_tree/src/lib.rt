@@ -9,9 +9,9 @@ mod sides;
 mod term;
 
 pub use limit::{
-    LARGEST_BOUND, Limit, MOST_ARGUMENTS, MOST_BYTES, MOST_CLAUSES, MOST_NAMES, MOST_VARIABLES,
-    Which,
+    LARGEST_BOUND, Limit, MOST_ARGUMENTS, MOST_BYTES, MOST_CLAUSES, MOST_LINES, MOST_NAMES,
+    MOST_VARIABLES, Which,
 };
 pub use problem::{Atom, Clause, Cmp, Decl, Problem, Sort, Var};
-pub use sides::{Side, negated, taken};
+pub use sides::{negated, signed};
 pub use term::Term;

@@ -16,6 +16,9 @@ pub const MOST_ARGUMENTS: usize = 4;
 /// The most names of a ground problem: constants and definitions together.
 pub const MOST_NAMES: usize = 4_000;
 
+/// The most lines of a ground problem.
+pub const MOST_LINES: usize = 50_000;
+
 /// The largest magnitude of a bound on a difference of whole numbers.
 pub const LARGEST_BOUND: i128 = 10_000_000_000_000_000_000_000_000;
 

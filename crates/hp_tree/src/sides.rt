@@ -1,16 +1,9 @@
-//! The part of a clause that an atom stands in, and the relation that it asks for there.
+//! Relations of the two sides of an atom, and what is asked of them where the atom is to be true or false.
 
 ghost use Rattle.std.specs.Prelude.{◌≡◌};
-ghost use Rattle.hp_tree.specs.Sides.{negated, taken};
+ghost use Rattle.hp_tree.specs.Sides.{negated, signed};
 
 use crate::problem::Cmp;
-
-/// The part of a clause that an atom stands in. An atom of the guard stands for its negation.
-#[derive(Clone, Copy)]
-pub enum Side {
-    Guard,
-    Head,
-}
 
 /// The relation that holds where this one does not.
 pub fn negated(cmp: Cmp) -> Cmp
@@ -26,12 +19,9 @@ pub fn negated(cmp: Cmp) -> Cmp
     }
 }
 
-/// The relation that a side asks of the two terms of an atom.
-pub fn taken(side: Side, cmp: Cmp) -> Cmp
-    ensures { result ≡ taken side cmp }
+/// The relation that holds where an atom is true, or, where it is not positive, false.
+pub fn signed(positive: bool, cmp: Cmp) -> Cmp
+    ensures { result ≡ signed positive cmp }
 {
-    match side {
-        Side::Guard => negated(cmp),
-        Side::Head => cmp,
-    }
+    if positive { cmp } else { negated(cmp) }
 }
