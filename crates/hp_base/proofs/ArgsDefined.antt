@@ -8,7 +8,6 @@ use Rattle.hp_tree.specs.Limits.{most_names}
 use Rattle.hp_tree.specs.declared.limit.Limit.{Limit}
 use Rattle.hp_tree.specs.declared.problem.Sort.{Sort}
 use Rattle.hp_tree.specs.declared.problem.Sort.TheVariants.{Num, Idx, Ptr}
-use Rattle.hp_terms.specs.Words.{made_word}
 use Rattle.hp_lit.specs.declared.literal.Name.{Name}
 use Rattle.hp_lit.specs.declared.literal.Lit.{Lit}
 use Rattle.hp_lit.specs.declared.literal.Lit.TheVariants as lit
@@ -24,13 +23,12 @@ use Rattle.hp_lit.specs.Truth.{Values, name_value}
 use Rattle.hp_linear.specs.Values.{lin_value}
 use Rattle.hp_defs.specs.declared.names.Constant.{Constant}
 use Rattle.hp_defs.specs.declared.names.Ground.{Ground}
-use Rattle.hp_defs.specs.Cells.{body_cells, definition_cells}
 use Rattle.hp_defs.specs.First.{IsFirst}
 use Rattle.hp_defs.specs.Fit.{BodyFits, IsFitNames}
 use Rattle.hp_defs.specs.Made.{IsMade, IsSmallBody}
-use Rattle.hp_defs.specs.Names.{NameList, bodies, constant_sort, count, definition_body, definition_name, function_words, next, sort_of_body, sort_of_definition, sorts, with_definition, words}
+use Rattle.hp_defs.specs.Names.{NameList, bodies, constant_sort, count, definition_body, definition_name, next, sort_of_body, sort_of_definition, sorts, with_definition}
 use Rattle.hp_defs.specs.Same.{place}
-use Rattle.hp_defs.proofs.Adding.{definition_more}
+use Rattle.hp_defs.proofs.Adding.{definition_made}
 use Rattle.hp_defs.proofs.Fitting.{fit_names_grow}
 use Rattle.hp_defs.proofs.Growing.{begins_get, sorts_begin}
 use Rattle.hp_defs.proofs.Lists.{get_front, pushed}
@@ -150,12 +148,7 @@ module _ (body : Body) (before after : Ground) (name : Name) where
     new_fits h fit = subst IsFitNames (sym new.names) (fit_names_grow before.names body fit h)
 
     pub new_made : IsSmallBody body → IsMade before.names → IsMade after.names
-    new_made small is =
-        let n = before.names in
-        let indexed = definition_more n (words n) (function_words n) (map definition_cells n.definitions) (record { made = is; by_word = refl; by_function = refl; by_body = refl })
-        body (body_cells body) (n.definitions ++ last ∷ []) (words n ++ made_word (length n.definitions + 1) ∷ []) (map definition_cells n.definitions ++ body_cells body ∷ []) (made_word (length n.definitions + 1))
-        new.room small new.fresh refl refl refl refl refl in
-        subst IsMade (sym new.names) indexed.made
+    new_made small is = subst IsMade (sym new.names) (definition_made before.names body is new.room small new.fresh)
 
 -- ---- sums have their lines
 pub sum_line_stays : (lines added : List Line) (name : Name) (lin : Lin) → HasSumLine lines name lin → HasSumLine (lines ++ added) name lin

@@ -1,5 +1,6 @@
 pub mod Making
 pub mod Each
+pub mod Carried
 pub mod Growing
 mod Apart
 mod Alone

@@ -3,7 +3,6 @@
 ghost use Rattle.std.specs.Prelude.{◌≡◌, ◌<◌, Ok, length};
 ghost use Rattle.std.specs.List.{All};
 ghost use Rattle.hp_terms.specs.Weight.{IsSmallOffset};
-ghost use Rattle.hp_index.specs.Pointers.{asks_same};
 ghost use Rattle.hp_linear.specs.Answers.{Answers, Pushed};
 ghost use Rattle.hp_defs.specs.Made.{IsSmallArg, IsSmallBody};
 ghost use Rattle.hp_base.specs.Making.{Begins, Makes};
@@ -12,7 +11,7 @@ ghost use Rattle.hp_base.specs.Congruence.{apart_literals, arg_form, arg_lin, ar
 use crate::limit::computed;
 use crate::lines::add_line;
 use hp_defs::{Ground, Signature};
-use hp_index::{IndexForm, form_literals};
+use hp_index::{IndexForm, asks_same, form_literals};
 use hp_linear::{lin_literals, named_lin, number_lin, zero_lin};
 use hp_lit::{Arg, Body, Def, GroundErr, Lin, Line, Lit, Name, Origin, PtrLit, Refusal};
 use hp_num::List;
@@ -56,16 +55,6 @@ fn arg_pointer(arg: Arg) -> Option<Name>
     match arg {
         Arg::Named(name) => Some(name),
         Arg::Number(_) | Arg::Index { .. } | Arg::Null => None,
-    }
-}
-
-/// Whether a relation of pointers is that of equal ones. One that orders numbers is none of pointers.
-fn asks_same(cmp: Cmp) -> bool
-    ensures { result ≡ asks_same cmp }
-{
-    match cmp {
-        Cmp::Eq => true,
-        Cmp::Le | Cmp::Lt | Cmp::Ne | Cmp::Ge | Cmp::Gt => false,
     }
 }
 

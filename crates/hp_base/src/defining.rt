@@ -3,7 +3,6 @@
 ghost use Rattle.std.specs.Prelude.{◌≡◌, None, IfOk};
 ghost use Rattle.std.specs.List.{All};
 ghost use Rattle.hp_lit.specs.declared.line.Body.TheVariants.{Sum};
-ghost use Rattle.hp_lit.specs.Limited.{many_names};
 ghost use Rattle.hp_linear.specs.Answers.{Answers};
 ghost use Rattle.hp_defs.specs.Made.{IsSmallArg, IsSmallBody};
 ghost use Rattle.hp_defs.specs.Same.{place};
@@ -14,21 +13,10 @@ use crate::limit::computed;
 use crate::lines::add_line;
 use hp_defs::Ground;
 use hp_linear::{lin_literals, named_lin};
-use hp_lit::{Arg, Body, GroundErr, Lin, Line, Lit, Name, Origin, Refusal};
+use hp_lit::{Arg, Body, GroundErr, Lin, Line, Lit, Name, Origin, Refusal, many_names};
 use hp_num::List;
-use hp_tree::{Cmp, Limit, MOST_NAMES, Which};
+use hp_tree::{Cmp, MOST_NAMES};
 use std::alloc::{AllocError, Global};
-
-/// The limit on names.
-fn many_names() -> Limit
-    ensures { result ≡ many_names }
-{
-    Limit {
-        which: Which::Names,
-        most: MOST_NAMES as u64,
-        item: 0,
-    }
-}
 
 /// A new definition, where there may be one more name.
 #[tactic(auto, using(crate::proofs::Making::begins_same, crate::proofs::Making::begins_same_names))]

@@ -1,25 +1,11 @@
 //! The limit that is passed where a number is too wide.
 
-ghost use Rattle.std.specs.Prelude.{◌≡◌};
-ghost use Rattle.hp_lit.specs.Limited.{coefficient};
 ghost use Rattle.hp_linear.specs.Steps.{Refusable};
 ghost use Rattle.hp_linear.specs.Answers.{Answers};
 ghost use Rattle.hp_defs.specs.declared.names.Ground.{Ground};
 ghost use Rattle.hp_base.specs.Making.{Makes, computed};
 
-use hp_lit::{GroundErr, Refusal};
-use hp_tree::{Limit, Which};
-
-/// The limit on the coefficients of an item.
-fn coefficient(item: u32) -> Limit
-    ensures { result ≡ coefficient item }
-{
-    Limit {
-        which: Which::Coefficient,
-        most: 0,
-        item,
-    }
-}
+use hp_lit::{GroundErr, Refusal, coefficient};
 
 /// The value of a computation with the numbers of an item, counted from 1. Where one of them is too wide, the error is the
 /// limit on coefficients, with the item.

@@ -6,7 +6,6 @@ use Rattle.hp_num.specs.Wide.{◌>>=◌}
 use Rattle.hp_tree.specs.declared.limit.Limit.{Limit as Which}
 use Rattle.hp_tree.specs.declared.problem.Decl.{Decl}
 use Rattle.hp_tree.specs.declared.problem.Problem.{Problem}
-use Rattle.hp_lit.specs.declared.line.Def.{Def}
 use Rattle.hp_lit.specs.declared.refusal.GroundErr.{GroundErr}
 use Rattle.hp_lit.specs.declared.refusal.GroundErr.TheVariants.{Limit, Memory}
 use Rattle.hp_defs.specs.declared.names.Ground.{Ground}
@@ -19,7 +18,6 @@ use Rattle.hp_norm.proofs.ProblemsNamed.{naming_fits}
 use Rattle.hp_chain.specs.Answers.{GroundMade, HasNamesOf}
 use Rattle.hp_chain.specs.Ground.{function_lines, ground_of}
 use Rattle.hp_chain.specs.Order.{function_order, places_below}
-use Rattle.hp_chain.specs.Places.{AreByFunction}
 use Rattle.hp_chain.proofs.Levels.{order_inside}
 
 -- ---- the whole
@@ -50,9 +48,6 @@ names_stayed p first g h same = record {
   fit = subst IsFitNames (sym same) h.fit;
 }
 
--- ---- the order and the places
+-- ---- the order
 pub order_known : (ls order : List ℕ) (n : ℕ) → order ≡ places_below 16 ls → length ls ≡ n → All (λ k. k < n) order
 order_known ls order n is same = subst (λ (ks : List ℕ). All (λ k. k < n) ks) (sym is) (subst (λ m. All (λ k. k < m) (places_below 16 ls)) same (order_inside 16 ls))
-
-pub groups_known : (count many : ℕ) (ds es : List Def) (groups all : List (List ℕ)) → count ≡ many → ds ≡ es → all ≡ groups → AreByFunction count ds groups → AreByFunction many es all
-groups_known count many ds es groups all c d e a = subst (λ n. AreByFunction n es all) c (subst (λ (fs : List Def). AreByFunction count fs all) d (subst (λ gs. AreByFunction count ds gs) (sym e) a))

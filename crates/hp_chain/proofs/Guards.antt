@@ -1,5 +1,6 @@
 -- The guard of a row: what is left to be said from an argument on.
-use Rattle.std.proofs.Common.{◌≡◌, ℕ, zero, suc, ◌+◌, ◌<◌, ◌≤◌, List, [], ◌∷◌, ◌++◌, length, drop, get_or, refl, sym, ap, ◌∙◌, append-nil, append_assoc, add-one, drop-cons, arith, ◌⊎◌, inl, inr}
+use Rattle.std.proofs.Common.{◌≡◌, ℕ, suc, ◌+◌, ◌<◌, ◌≤◌, List, [], ◌∷◌, ◌++◌, length, drop, get_or, refl, sym, ap, ◌∙◌, append-nil, append_assoc, add-one, drop-cons, ◌⊎◌, inl, inr}
+use Rattle.std.proofs.lemmas.List.{drop_all}
 use Rattle.hp_math.specs.Rational.{ℚ}
 use Rattle.hp_tree.specs.declared.term.Term.{Name}
 use Rattle.hp_tree.specs.declared.problem.Atom.{Atom}
@@ -7,12 +8,6 @@ use Rattle.hp_tree.specs.declared.problem.Cmp.TheVariants.{Eq}
 use Rattle.hp_tree.specs.Value.{Word}
 use Rattle.hp_local.specs.Rows.{number_term, point_guard}
 use Rattle.hp_base.proofs.Each.{item_next}
-
-pub over : {A : Type 0} (xs : List A) (i : ℕ) → length xs ≤ i → drop i xs ≡ []
-over [] zero h = refl
-over [] (suc i) h = refl
-over (x ∷ xs) zero h = absurd (omega arith)
-over (x ∷ xs) (suc i) h = over xs i (omega arith)
 
 no_values : (words : List Word) → point_guard words [] ≡ []
 no_values [] = refl
@@ -39,5 +34,5 @@ guard_more words xs at guard more word x h l is e m a =
     }
 
 pub guard_end : (words : List Word) (xs : List ℚ) (at : ℕ) (guard : List Atom) → (length words ≤ at) ⊎ (length xs ≤ at) → IsGuardTo words xs at guard → guard ≡ point_guard words xs
-guard_end words xs at guard (inl h) a = sym (a.rest ∙ ap (λ ws. guard ++ point_guard ws (drop at xs)) (over words at h) ∙ append-nil guard)
-guard_end words xs at guard (inr h) a = sym (a.rest ∙ ap (λ zs. guard ++ point_guard (drop at words) zs) (over xs at h) ∙ ap (λ g. guard ++ g) (no_values (drop at words)) ∙ append-nil guard)
+guard_end words xs at guard (inl h) a = sym (a.rest ∙ ap (λ ws. guard ++ point_guard ws (drop at xs)) (drop_all at words h) ∙ append-nil guard)
+guard_end words xs at guard (inr h) a = sym (a.rest ∙ ap (λ zs. guard ++ point_guard (drop at words) zs) (drop_all at xs h) ∙ ap (λ g. guard ++ g) (no_values (drop at words)) ∙ append-nil guard)

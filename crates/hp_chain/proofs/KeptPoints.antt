@@ -1,11 +1,12 @@
 -- A further point is kept where none has its arguments, and the points of applications one by one.
-use Rattle.std.proofs.Common.{◌≡◌, ℕ, zero, suc, ◌+◌, ◌<◌, ◌≤◌, List, [], ◌∷◌, ◌++◌, true, false, map, length, take, get_or, nat_eq, pos, Some, None, slice_get, refl, sym, ap, subst, ◌∙◌, append_assoc, add-one, arith, if◌then◌else◌}
+use Rattle.std.proofs.Common.{◌≡◌, ℕ, zero, suc, ◌+◌, ◌<◌, ◌≤◌, List, [], ◌∷◌, ◌++◌, true, false, map, length, take, get_or, nat_eq, pos, Some, None, slice_get, Result, Ok, Err, OnOk, refl, sym, ap, subst, ◌∙◌, append_assoc, arith, if◌then◌else◌}
 use Rattle.std.specs.Bool.{Decides}
 use Rattle.std.specs.List.{All}
 use Rattle.std.proofs.lemmas.Bool.{or_left, or_right}
-use Rattle.std.proofs.lemmas.List.{map-append, take_all}
-use Rattle.hp_math.specs.Rational.{ℚ}
-use Rattle.hp_math.proofs.Rational.{ℚ-ext}
+use Rattle.std.proofs.lemmas.List.{map-append, take_all, take_more}
+use Rattle.std.specs.Prelude.{unsigned_abs}
+use Rattle.hp_math.specs.Rational.{ℚ, ratio}
+use Rattle.hp_math.proofs.Rational.{ratio-parts}
 use Rattle.hp_lit.specs.Truth.{Values}
 use Rattle.std.proofs.lemmas.List.Elements.{All-append, All-cons, All-map, All-nil}
 use Rattle.hp_lit.specs.declared.line.Body.{Body}
@@ -21,71 +22,74 @@ use Rattle.hp_local.specs.Frame.{Fact, same_values}
 use Rattle.hp_local.specs.Rows.{first_facts, has_arguments, point_row, point_rows}
 use Rattle.hp_local.proofs.Rows.{facts_are_added_once}
 use Rattle.hp_local.proofs.Points.{same_values-Decides}
-use Rattle.hp_chain.specs.declared.index.Coordinate.{Coordinate}
-use Rattle.hp_chain.specs.Kept.{AreKept, coordinate, fact_coordinates}
+use Rattle.hp_defs.specs.declared.cell.Cell.{Cell}
+use Rattle.hp_defs.specs.declared.cell.Cell.TheVariants as cell
+use Rattle.hp_chain.specs.Kept.{AreKept, fact_cells, value_cell}
 use Rattle.hp_chain.specs.Ground.{body_point, points}
-use Rattle.hp_chain.specs.Places.{body_place, places, point_at, points_at}
+use Rattle.hp_defs.specs.Places.{body_place, places}
+use Rattle.hp_chain.specs.Places.{point_at, points_at}
 use Rattle.hp_chain.specs.Structures.{fact_of}
-use Rattle.hp_chain.proofs.Grouped.{take_next}
 
 -- ---- values by their parts
-one_value : (x y : ℚ) → coordinate x ≡ coordinate y → x ≡ y
-one_value x y e =
-    let den : pos x.den ≡ pos y.den = ap (λ (p : Coordinate). p.den) e in
-    ℚ-ext x y (ap (λ (p : Coordinate). p.num) e) (cc)
+abbrev value_of : Cell → ℚ
+value_of (cell.Number top below) = ratio top (unsigned_abs below)
+value_of _ = ratio (pos 0) 1
 
-head_same : (x y : Coordinate) (xs ys : List Coordinate) → (x ∷ xs) ≡ (y ∷ ys) → x ≡ y
+one_value : (x y : ℚ) → value_cell x ≡ value_cell y → x ≡ y
+one_value x y e = sym (ratio-parts x) ∙ ap value_of e ∙ ratio-parts y
+
+head_same : (x y : Cell) (xs ys : List Cell) → (x ∷ xs) ≡ (y ∷ ys) → x ≡ y
 head_same x y xs ys e = cc
 
-tail_same : (x y : Coordinate) (xs ys : List Coordinate) → (x ∷ xs) ≡ (y ∷ ys) → xs ≡ ys
+tail_same : (x y : Cell) (xs ys : List Cell) → (x ∷ xs) ≡ (y ∷ ys) → xs ≡ ys
 tail_same x y xs ys e = cc
 
-one_list : (xs ys : List ℚ) → map coordinate xs ≡ map coordinate ys → xs ≡ ys
+one_list : (xs ys : List ℚ) → map value_cell xs ≡ map value_cell ys → xs ≡ ys
 one_list [] [] e = refl
 one_list [] (y ∷ ys) e = absurd (cc)
 one_list (x ∷ xs) [] e = absurd (cc)
 one_list (x ∷ xs) (y ∷ ys) e =
-    let h = one_value x y (head_same (coordinate x) (coordinate y) (map coordinate xs) (map coordinate ys) e) in
-    let t = one_list xs ys (tail_same (coordinate x) (coordinate y) (map coordinate xs) (map coordinate ys) e) in
+    let h = one_value x y (head_same (value_cell x) (value_cell y) (map value_cell xs) (map value_cell ys) e) in
+    let t = one_list xs ys (tail_same (value_cell x) (value_cell y) (map value_cell xs) (map value_cell ys) e) in
     (λ j. h j ∷ t j)
 
-tells : (k l : Fact) → Decides (same_values k.args l.args) (fact_coordinates k ≡ fact_coordinates l)
+tells : (k l : Fact) → Decides (same_values k.args l.args) (fact_cells k ≡ fact_cells l)
 tells k l =
     let d = same_values-Decides k.args l.args in
-    (λ t. ap (λ xs. map coordinate xs) (d.0 t), λ e. d.1 (one_list k.args l.args e))
+    (λ t. ap (λ xs. map value_cell xs) (d.0 t), λ e. d.1 (one_list k.args l.args e))
 
 -- ---- points
-there : (k : Fact) (facts : List Fact) (j : ℕ) → slice_get (map fact_coordinates facts) j ≡ Some (fact_coordinates k) → has_arguments k.args facts ≡ true
+there : (k : Fact) (facts : List Fact) (j : ℕ) → slice_get (map fact_cells facts) j ≡ Some (fact_cells k) → has_arguments k.args facts ≡ true
 there k [] j h = absurd (cc)
 there k (l ∷ facts) zero h =
-    let e : fact_coordinates l ≡ fact_coordinates k = cc in
+    let e : fact_cells l ≡ fact_cells k = cc in
     or_left (same_values k.args l.args) (has_arguments k.args facts) ((tells k l).1 (sym e))
 there k (l ∷ facts) (suc j) h = or_right (same_values k.args l.args) (has_arguments k.args facts) (there k facts j h)
 
-pub kept_none : (index : List (List Coordinate)) (rows : List Row) → index ≡ [] → rows ≡ [] → AreKept [] index rows
+pub kept_none : (index : List (List Cell)) (rows : List Row) → index ≡ [] → rows ≡ [] → AreKept [] index rows
 kept_none index rows e d = record { index_is = e; rows_are = d }
 
-pub kept_found : (facts : List Fact) (index : List (List Coordinate)) (rows : List Row) (k : Fact) (j : ℕ)
-    → AreKept facts index rows → IsFirst (fact_coordinates k) index (Some j) → AreKept (facts ++ k ∷ []) index rows
+pub kept_found : (facts : List Fact) (index : List (List Cell)) (rows : List Row) (k : Fact) (j : ℕ)
+    → AreKept facts index rows → IsFirst (fact_cells k) index (Some j) → AreKept (facts ++ k ∷ []) index rows
 kept_found facts index rows k j a f =
     let firsts = first_facts facts in
     let has = there k firsts j (ap (λ xs. slice_get xs j) (sym a.index_is) ∙ f.0) in
     let same : first_facts (facts ++ k ∷ []) ≡ firsts = facts_are_added_once facts k ∙ ap (λ b. if b then firsts else firsts ++ k ∷ []) has in
     record {
-      index_is = a.index_is ∙ ap (λ fs. map fact_coordinates fs) (sym same);
+      index_is = a.index_is ∙ ap (λ fs. map fact_cells fs) (sym same);
       rows_are = a.rows_are ∙ ap (λ fs. map point_row fs) (sym same);
     }
 
-pub kept_added : (facts : List Fact) (index more : List (List Coordinate)) (rows longer : List Row) (k : Fact)
-    → AreKept facts index rows → IsFirst (fact_coordinates k) index None → more ≡ index ++ fact_coordinates k ∷ [] → longer ≡ rows ++ point_row k ∷ []
+pub kept_added : (facts : List Fact) (index more : List (List Cell)) (rows longer : List Row) (k : Fact)
+    → AreKept facts index rows → IsFirst (fact_cells k) index None → more ≡ index ++ fact_cells k ∷ [] → longer ≡ rows ++ point_row k ∷ []
     → AreKept (facts ++ k ∷ []) more longer
 kept_added facts index more rows longer k a f e d =
     let firsts = first_facts facts in
-    let nowhere = subst (λ xs. IsFirst (fact_coordinates k) xs None) a.index_is f in
-    let none = no_test (fact_coordinates k) fact_coordinates (λ l. same_values k.args l.args) (tells k) firsts nowhere in
+    let nowhere = subst (λ xs. IsFirst (fact_cells k) xs None) a.index_is f in
+    let none = no_test (fact_cells k) fact_cells (λ l. same_values k.args l.args) (tells k) firsts nowhere in
     let same : first_facts (facts ++ k ∷ []) ≡ firsts ++ k ∷ [] = facts_are_added_once facts k ∙ ap (λ b. if b then firsts else firsts ++ k ∷ []) none in
     record {
-      index_is = e ∙ ap (λ xs. xs ++ fact_coordinates k ∷ []) a.index_is ∙ sym (map-append fact_coordinates firsts (k ∷ [])) ∙ ap (λ fs. map fact_coordinates fs) (sym same);
+      index_is = e ∙ ap (λ xs. xs ++ fact_cells k ∷ []) a.index_is ∙ sym (map-append fact_cells firsts (k ∷ [])) ∙ ap (λ fs. map fact_cells fs) (sym same);
       rows_are = d ∙ ap (λ xs. xs ++ point_row k ∷ []) a.rows_are ∙ sym (map-append point_row firsts (k ∷ [])) ∙ ap (λ fs. map point_row fs) (sym same);
     }
 
@@ -101,12 +105,11 @@ pub facts_next : (word : Word) (v : Values) (ds : List Def) (ks : List ℕ) (i k
     → map (fact_of word v) (points_at ds (take (i + 1) ks)) ≡ map (fact_of word v) (points_at ds (take i ks)) ++ fact_of word v (point_of d) ∷ []
 facts_next word v ds ks i k d h e l g =
     let one : points_at ds (k ∷ []) ≡ point_of d ∷ [] = ap (λ o. point_at o ++ []) (got ds k d l g) in
-    ap (λ n. map (fact_of word v) (points_at ds (take n ks))) (add-one i)
-    ∙ ap (λ ls. map (fact_of word v) (points_at ds ls)) (take_next ks i k 0 h e)
+    ap (λ ls. map (fact_of word v) (points_at ds ls)) (take_more ks i 0 h ∙ ap (λ j. take i ks ++ j ∷ []) (sym e))
     ∙ ap (λ ps. map (fact_of word v) ps) (points_both ds (take i ks) (k ∷ []) ∙ ap (λ ps. points_at ds (take i ks) ++ ps) one)
     ∙ map-append (fact_of word v) (points_at ds (take i ks)) (point_of d ∷ [])
 
-pub kept_end : (word : Word) (v : Values) (ds : List Def) (ks : List ℕ) (i : ℕ) (index : List (List Coordinate)) (rows : List Row) → length ks ≤ i
+pub kept_end : (word : Word) (v : Values) (ds : List Def) (ks : List ℕ) (i : ℕ) (index : List (List Cell)) (rows : List Row) → length ks ≤ i
     → AreKept (map (fact_of word v) (points_at ds (take i ks))) index rows → rows ≡ point_rows (map (fact_of word v) (points_at ds ks))
 kept_end word v ds ks i index rows h a = a.rows_are ∙ ap (λ ls. point_rows (map (fact_of word v) (points_at ds ls))) (take_all i ks h)
 
@@ -141,3 +144,8 @@ places_inside func (d ∷ ds) =
     let later = places_inside func ds in
     All-append (λ k. k < suc (length ds)) (body_place func 0 d.body) (map suc (places func ds)) (body_place_inside func (length ds) d.body)
     (All-map (λ k. k < suc (length ds)) suc (places func ds) (λ i e h. (let l = later i e h in omega arith)))
+
+-- what follows where a call succeeds
+pub ok_follows : {X E : Type 0} (r : Result X E) (P Q : Type 0) → (P → Q) → OnOk r P → OnOk r Q
+ok_follows (Ok x) P Q f h = f h
+ok_follows (Err e) P Q f h = tt

@@ -1,4 +1,5 @@
 pub mod ValuesPoints
+pub mod Turns
 pub mod ValuesTurns
 pub mod ValuesSorts
 pub mod ValuesTables
@@ -7,14 +8,11 @@ pub mod ValuesClauses
 pub mod ValuesWords
 pub mod ValuesGround
 pub mod ValuesGive
-pub mod StructuresTurns
 pub mod StructuresCongruent
 pub mod StructuresStay
 pub mod StructuresFilled
 pub mod StructuresWords
 pub mod StructuresGive
-pub mod Telling
-pub mod Grouped
 pub mod Numbers
 pub mod Guards
 pub mod KeptPoints

@@ -1,20 +1,16 @@
 -- Sums of whole numbers, and numbers below 0.
 use Rattle.std.proofs.Common.{◌≡◌, ℤ, pos, ◌+ℤ◌, ◌*ℤ◌, true, false, sym, ap, ◌∙◌, arith}
 use Rattle.std.specs.Prelude.{int_lt, if◌then◌else◌}
-use Rattle.std.proofs.lemmas.Bool.{eqb-true}
 use Rattle.std.proofs.lemmas.Int.{ints}
 use Rattle.hp_math.specs.Rational.{ℚ, whole, ◌+ℚ◌, is_whole, lt_ℚ, neg_ℚ}
-use Rattle.hp_math.proofs.Rational.{ℚ-ext}
 use Rattle.hp_math.proofs.Parts.{whole-parts}
 use Rattle.hp_math.proofs.Laws.{whole-+}
 use Rattle.hp_tree.specs.declared.term.Term.{Neg, Number}
+use Rattle.hp_index.proofs.Numbers.{whole-of}
 use Rattle.hp_local.specs.Rows.{number_term}
 
-pub is_its_whole : (q : ℚ) → is_whole q ≡ true → q ≡ whole q.num
-is_its_whole q h = let parts = whole-parts q.num in ℚ-ext q (whole q.num) (sym parts.0) (eqb-true q.den 1 h ∙ sym parts.1)
-
 pub shifted_is : (base : ℚ) (offset : ℤ) → is_whole base ≡ true → base +ℚ whole offset ≡ whole (base.num +ℤ offset)
-shifted_is base offset h = ap (λ q. q +ℚ whole offset) (is_its_whole base h) ∙ whole-+ base.num offset
+shifted_is base offset h = ap (λ q. q +ℚ whole offset) (whole-of base h) ∙ whole-+ base.num offset
 
 pub below_zero : (q : ℚ) → lt_ℚ q (whole (pos 0)) ≡ int_lt q.num (pos 0)
 below_zero q =

@@ -1,5 +1,6 @@
 -- The constants and the tables of a structure, one by one.
 use Rattle.std.proofs.Common.{◌≡◌, ℕ, zero, suc, ◌+◌, ◌<◌, ◌≤◌, ◌||◌, List, [], ◌∷◌, ◌++◌, Bool, true, false, map, length, drop, get_or, Some, Result, Ok, Err, IfOk, refl, sym, ap, subst, ◌∙◌, append-nil, append_assoc, add-one, arith}
+use Rattle.std.proofs.lemmas.List.{drop_all}
 use Rattle.std.specs.Prelude.{slice_get, nat_lt}
 use Rattle.std.specs.List.{All, list_any}
 use Rattle.std.proofs.lemmas.Bool.{ltb-false}
@@ -20,9 +21,9 @@ use Rattle.hp_local.specs.Free.{free_table}
 use Rattle.hp_norm.specs.Lines.{signatures_from}
 use Rattle.hp_sorts.specs.Limits.{has_many_arguments}
 use Rattle.hp_chain.specs.Small.{HasFewArguments}
-use Rattle.hp_chain.specs.Places.{places, points_at}
+use Rattle.hp_defs.specs.Places.{places}
+use Rattle.hp_chain.specs.Places.{points_at}
 use Rattle.hp_chain.specs.Structures.{const_values, fact_of, facts_of, tables_from}
-use Rattle.hp_chain.proofs.Guards.{over}
 use Rattle.hp_chain.proofs.KeptPoints.{points_there}
 
 -- ---- constants
@@ -45,7 +46,7 @@ consts_more cs v i made more c x h l e g is a =
     }
 
 pub consts_end : (cs : List Constant) (v : Values) (i : ℕ) (made : List ConstValue) → length cs ≤ i → AreConstsTo cs v i made → made ≡ const_values (map constant_name cs) v
-consts_end cs v i made h a = sym (a.rest ∙ ap (λ xs. made ++ const_values (map constant_name xs) (drop i v)) (over cs i h) ∙ append-nil made)
+consts_end cs v i made h a = sym (a.rest ∙ ap (λ xs. made ++ const_values (map constant_name xs) (drop i v)) (drop_all i cs h) ∙ append-nil made)
 
 -- ---- tables
 drop_there : {A : Type 0} (xs : List A) (i : ℕ) (x : A) → slice_get xs i ≡ Some x → drop i xs ≡ x ∷ drop (suc i) xs
@@ -79,7 +80,7 @@ tables_more names v i made more table h says is a =
     }
 
 pub tables_end : (names : NameList) (v : Values) (i : ℕ) (made : List Table) → length names.signatures ≤ i → AreTablesTo names v i made → made ≡ tables_from 0 names.signatures names v
-tables_end names v i made h a = sym (a.rest ∙ ap (λ ss. made ++ tables_from i ss names v) (over names.signatures i h) ∙ append-nil made)
+tables_end names v i made h a = sym (a.rest ∙ ap (λ ss. made ++ tables_from i ss names v) (drop_all i names.signatures h) ∙ append-nil made)
 
 -- ---- arguments
 either_left : (a b : Bool) → (a || b) ≡ false → a ≡ false

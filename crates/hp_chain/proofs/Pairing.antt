@@ -3,7 +3,7 @@ use Rattle.std.proofs.Common.{◌≡◌, ℕ, zero, suc, ◌+◌, ◌<◌, ◌�
 use Rattle.std.specs.Prelude.{slice_get}
 use Rattle.std.specs.List.{All}
 use Rattle.std.specs.Result.{IsErrAnd}
-use Rattle.std.proofs.lemmas.List.{take_all}
+use Rattle.std.proofs.lemmas.List.{drop_all, take_all}
 use Rattle.std.proofs.lemmas.List.Elements.{All-head, All-tail}
 use Rattle.hp_tree.specs.declared.limit.Limit.{Limit}
 use Rattle.hp_lit.specs.declared.line.Def.{Def}
@@ -19,8 +19,8 @@ use Rattle.hp_base.proofs.Places.{congruence_there}
 use Rattle.hp_chain.specs.Answers.{line_at}
 use Rattle.hp_chain.specs.Ground.{function_lines, pair_line, signature_lines}
 use Rattle.hp_chain.specs.Order.{pairs}
-use Rattle.hp_chain.specs.Places.{places, point_at, points_at}
-use Rattle.hp_chain.proofs.Guards.{over}
+use Rattle.hp_defs.specs.Places.{places}
+use Rattle.hp_chain.specs.Places.{point_at, points_at}
 use Rattle.hp_chain.proofs.KeptPoints.{places_inside, points_there}
 use Rattle.hp_chain.proofs.OneByOne.{got_one}
 
@@ -75,7 +75,7 @@ module _ {N : Type 0} (f : N → Maker (Unit {0})) (ns : List N) where
         makes_same_err (in_turn f ns) old next r e s (makes_stopped (f (get_or ns i d)) (in_turn f ns) now next old next e (λ l k. turned (Err l) k) m)
 
   pub turned_end : (i : ℕ) (old now : Ground) → length ns ≤ i → IsTurned f ns i old now → in_turn f ns old ≡ Ok (tt, now)
-  turned_end i old now h t = t.rest ∙ ap (λ zs. in_turn f zs now) (over ns i h)
+  turned_end i old now h t = t.rest ∙ ap (λ zs. in_turn f zs now) (drop_all i ns h)
 
 -- ---- turns of two lists, and of a list of pairs
 then_same : {A B : Type 0} (r : Result (A × Ground) Limit) (f h : A → Maker B) → ((x : A) (mid : Ground) → r ≡ Ok (x, mid) → f x mid ≡ h x mid) → (r then f) ≡ (r then h)
@@ -142,7 +142,7 @@ module _ (func : ℕ) (ks : List ℕ) (i : ℕ) (h : i < length ks) (old now : G
       (λ l k. paired (Err l) (ap (λ zs. in_turn (congruence_at func (get_or ks i 0)) zs now) (sym is) ∙ k)) m)
 
 pub paired_end : (func : ℕ) (ks : List ℕ) (i : ℕ) (old now : Ground) → length ks ≤ i → IsPaired func ks i old now → in_turn (line_at func) (pairs ks) old ≡ Ok (tt, now)
-paired_end func ks i old now h t = t.rest ∙ ap (λ zs. in_turn (line_at func) (pairs zs) now) (over ks i h)
+paired_end func ks i old now h t = t.rest ∙ ap (λ zs. in_turn (line_at func) (pairs zs) now) (drop_all i ks h)
 
 -- ---- pairs of places are pairs of applications
 module _ (func : ℕ) (s : Signature) (names : NameList) (signed : slice_get names.signatures func ≡ Some s) where

@@ -1,5 +1,5 @@
 -- The arguments of definitions that fit are small, where the values of index names are.
-use Rattle.std.proofs.Common.{◌≡◌, ℕ, zero, suc, ℤ, pos, ◌≤ℤ◌, ◌+ℤ◌, List, [], ◌∷◌, get_or, drop, Option, Some, None, refl, sym, subst, arith}
+use Rattle.std.proofs.Common.{◌≡◌, ℕ, ℤ, pos, ◌≤ℤ◌, ◌+ℤ◌, List, [], ◌∷◌, get_or, drop, Option, Some, None, refl, sym, subst, arith}
 use Rattle.std.specs.Prelude.{slice_get}
 use Rattle.std.specs.List.{All, AllZip}
 use Rattle.std.proofs.lemmas.Bool.{eq-eqb}
@@ -19,7 +19,7 @@ use Rattle.hp_lit.specs.declared.line.Arg.TheVariants.{Number, Named, Index, Nul
 use Rattle.hp_lit.specs.declared.line.Body.{Body}
 use Rattle.hp_lit.specs.declared.line.Body.TheVariants.{Apply, Sum}
 use Rattle.hp_lit.specs.Fit.{IsIdxSide}
-use Rattle.hp_lit.specs.Sorts.{AreOfSorts, HaveSorts, IsOfSort}
+use Rattle.hp_lit.specs.Sorts.{AreOfSorts, HaveSorts}
 use Rattle.hp_lit.specs.Truth.{Values, optional_value}
 use Rattle.hp_defs.specs.Fit.{ArgFits, BodyFits, IsFitNames}
 use Rattle.hp_defs.specs.Made.{IsMade, IsSmallArg, IsSmallBody}
@@ -30,6 +30,7 @@ use Rattle.hp_rank.proofs.Pointers.{other_name}
 use Rattle.hp_base.specs.Congruence.{body_args}
 use Rattle.hp_base.proofs.Places.{small_at}
 use Rattle.hp_chain.specs.Small.{AreSmallIdx, HasSmallSums, IsSmallAt, IsSmallSum}
+use Rattle.hp_chain.proofs.ValuesSorts.{have_sorts}
 
 none_small : IsWithin largest_value (whole (pos 0)).num
 none_small = let zero_is = (whole-parts (pos 0)).0 in record { low = subst (λ n. pos 0 ≤ℤ (n +ℤ pos largest_value)) (sym zero_is) (omega (arith, ints)); high = subst (λ n. n ≤ℤ pos largest_value) (sym zero_is) (omega (arith, ints)) }
@@ -56,13 +57,6 @@ module _ (ss : List Sort) (v : Values) (sorted : HaveSorts ss v) (small : AreSma
 body_small : (names : NameList) (v : Values) (body : Body) → HaveSorts (sorts names) v → AreSmallIdx (sorts names) v → BodyFits names body → IsSmallBody body → All (IsSmallAt v) (body_args body)
 body_small names v (Apply func args) sorted small h s = args_small (sorts names) v sorted small h.known.args args h.args_fit s
 body_small names v (Sum lin) sorted small h s = All-nil (IsSmallAt v)
-
-have_sorts : (ss : List Sort) (v : Values) → AreOfSorts ss v → HaveSorts ss v
-have_sorts [] [] h n s e = absurd (cc)
-have_sorts [] (x ∷ xs) h n s e = absurd h
-have_sorts (t ∷ ss) [] h n s e = absurd h
-have_sorts (t ∷ ss) (x ∷ xs) h zero s e = let is : t ≡ s = cc in subst (λ r. IsOfSort r x) is h.0
-have_sorts (t ∷ ss) (x ∷ xs) h (suc n) s e = have_sorts ss xs h.1 n s e
 
 first_begin : (k : ℕ) (names : NameList) → BeginsNames (first_names k names) names
 first_begin k names = record { constants = refl; signatures = refl; definitions = record { more = drop k names.definitions; all = sym (take-append-drop k names.definitions) } }

@@ -23,7 +23,7 @@ use Rattle.hp_base.proofs.CongruentLine.{congruence_is_added}
 use Rattle.hp_norm.specs.Lines.{ended}
 use Rattle.hp_chain.specs.Ground.{function_lines, pair_line, points, signature_lines}
 use Rattle.hp_chain.specs.Order.{pairs}
-use Rattle.hp_chain.proofs.StructuresTurns.{Keeps, in_turn_keeps}
+use Rattle.hp_chain.proofs.Turns.{Keeps, in_turn_keeps}
 use Rattle.hp_chain.proofs.ValuesPoints.{applied, are_points, pairs_among}
 use Rattle.hp_base.proofs.ArgsSteps.{gave}
 use Rattle.hp_lit.specs.declared.literal.Name.{Name}

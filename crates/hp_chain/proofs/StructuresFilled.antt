@@ -1,8 +1,8 @@
 -- Values of names from those of the constants: each definition has the value of its body, in the order of their making.
-use Rattle.std.proofs.Common.{◌≡◌, ◌∙◌, ◌++◌, ◌+◌, ℕ, zero, suc, ◌≤◌, ◌<◌, inl, inr, pos, IsTrue, List, [], ◌∷◌, length, map, take, Option, Some, slice_get, refl, sym, ap, subst, arith, append_assoc, append-nil, length-append}
+use Rattle.std.proofs.Common.{◌≡◌, ◌∙◌, ◌++◌, ◌+◌, ℕ, zero, suc, ◌≤◌, ◌<◌, inl, inr, pos, IsTrue, List, [], ◌∷◌, length, map, take, Option, Some, slice_get, refl, sym, ap, subst, arith, append_assoc, append-nil, length-append, add-one}
 use Rattle.std.proofs.lemmas.Bool.{cases_eq}
-use Rattle.std.proofs.lemmas.List.{get_or_append_left, get_or_push, length-take-le, map-append, take_all}
-use Rattle.std.proofs.lemmas.Option.{slice_get_within}
+use Rattle.std.proofs.lemmas.List.{get_or_append_left, get_or_push, length-take-le, map-append, take_all, take_more}
+use Rattle.std.proofs.lemmas.Option.{get_or_from_slice_get, slice_get_within}
 use Rattle.hp_math.specs.Rational.{ℚ, whole}
 use Rattle.hp_tree.specs.declared.problem.Sort.{Sort}
 use Rattle.hp_tree.specs.Sorted.{is_of_sort}
@@ -18,6 +18,7 @@ use Rattle.hp_defs.specs.Names.{NameList, constant_sort, first_names, result_sor
 use Rattle.hp_defs.proofs.Growing.{length_sorts}
 use Rattle.hp_defs.proofs.Lists.{pushed}
 use Rattle.hp_base.specs.Values.{Extends, arg_values, body_value, signature_function}
+use Rattle.hp_chain.proofs.OneByOne.{got_one}
 use Rattle.hp_chain.proofs.StructuresStay.{body_stays, name_stays}
 use Rattle.hp_chain.proofs.ValuesSorts.{AreInside, args_inside}
 use Rattle.hp_lit.specs.Growing.{Begins}
@@ -26,19 +27,8 @@ use Rattle.hp_lit.proofs.Growing.{begins_more, begins_same, begins_then}
 -- ---- lists
 -- the first elements and one more
 take_one_more : {A : Type 0} (xs : List A) (k : ℕ) (x : A) → slice_get xs k ≡ Some x → take (suc k) xs ≡ take k xs ++ x ∷ []
-take_one_more [] k x e = absurd (cc)
-take_one_more (y ∷ ys) zero x e = take_first y ys ∙ ap (λ z. z ∷ []) (let same : y ≡ x = cc in same)
-  where
-    take_first : {A : Type 0} (y : A) (ys : List A) → take 1 (y ∷ ys) ≡ y ∷ []
-    take_first y [] = refl
-    take_first y (z ∷ zs) = refl
-take_one_more (y ∷ ys) (suc k) x e = ap (λ zs. y ∷ zs) (take_one_more ys k x e)
-
--- within the length there is an element
-get_there : {A : Type 0} (xs : List A) (k : ℕ) → k < length xs → (x : A) × (slice_get xs k ≡ Some x)
-get_there [] k within = absurd (omega arith)
-get_there (x ∷ xs) zero within = (x, refl)
-get_there (x ∷ xs) (suc k) within = get_there xs k (omega arith)
+take_one_more xs k x e =
+    ap (λ n. take n xs) (sym (add-one k)) ∙ take_more xs k x (slice_get_within xs k x e) ∙ ap (λ y. take k xs ++ y ∷ []) (get_or_from_slice_get xs k x x e)
 
 take_nothing : {A : Type 0} (xs : List A) → take 0 xs ≡ []
 take_nothing [] = refl
@@ -135,7 +125,7 @@ module _ (size : ℕ) (some : 1 ≤ size) (functions : Functions) (names : NameL
   filled_upto consts count inside zero few = (consts, start consts count inside)
   filled_upto consts count inside (suc k) few =
       let before = filled_upto consts count inside k (omega arith) in
-      let next = get_there names.definitions k (omega arith) in
+      let next = got_one names.definitions k (omega arith) in
       (before.0 ++ body_value functions names before.0 next.0.body ∷ [], more consts k before.0 next.0 next.1 before.1)
 
   -- values of all names, those of the constants in front

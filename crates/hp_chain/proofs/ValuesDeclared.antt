@@ -3,7 +3,7 @@ use Rattle.std.proofs.Common.{◌≡◌, ◌∙◌, ◌+◌, ◌≤◌, inl, inr
 use Rattle.std.specs.Prelude.{slice_get}
 use Rattle.std.specs.Str.{bytes_eq}
 use Rattle.std.specs.List.{All, Contains, list_any}
-use Rattle.std.proofs.lemmas.Bool.{ltb-false, or_parts}
+use Rattle.std.proofs.lemmas.Bool.{or_parts}
 use Rattle.std.proofs.lemmas.List.Elements.{All-cons, All-contains, All-head, All-nil, All-tail}
 use Rattle.hp_names.specs.Names.{AreDistinct, is_among}
 use Rattle.hp_names.proofs.Texts.{text_same}
@@ -27,6 +27,9 @@ use Rattle.hp_norm.specs.Lines.{constants_of, signatures_from}
 use Rattle.hp_chain.specs.Structures.{const_values, facts_of, tables_from}
 use Rattle.hp_local.specs.Free.{free_table}
 use Rattle.hp_chain.proofs.ValuesSorts.{AreInside}
+use Rattle.std.proofs.lemmas.Option.{get_or_from_slice_get, slice_get_within}
+use Rattle.hp_chain.specs.Small.{HasFewArguments}
+use Rattle.hp_chain.proofs.OneByOne.{few_arguments as all_few_arguments}
 
 -- ---- constants
 pub constants_fit : (size : ℕ) (decls : List Decl) (w : Values) → length (constants_of decls) ≤ length w → AreInside size (map constant_sort (constants_of decls)) w
@@ -49,22 +52,16 @@ third false true c x y z e = absurd (cc)
 third false false true x y z e = absurd (cc)
 third false false false x y z e = refl
 
-few_there : (item : ℕ) (decls : List Decl) (k : ℕ) (s : Signature) → list_any has_many_arguments decls ≡ false → slice_get (signatures_from item decls) k ≡ Some s → length s.args ≤ most_arguments
-few_there item [] k s h e = absurd (cc)
-few_there item (Const name sort ∷ decls) k s h e = few_there (item + 1) decls k s h e
-few_there item (Fun name args result level ∷ decls) zero s h e =
-    let same : record { name = name; args = args; result = result; level = level; item = item } ≡ s = cc in
-    let parts = or_parts (nat_lt most_arguments (length args)) (list_any has_many_arguments decls) h in
-    subst (λ (x : Signature). length x.args ≤ most_arguments) same (ltb-false most_arguments (length args) parts.0)
-few_there item (Fun name args result level ∷ decls) (suc k) s h e =
-    few_there (item + 1) decls k s (or_parts (nat_lt most_arguments (length args)) (list_any has_many_arguments decls) h).1 e
-
 -- where no limit of a text is passed, functions have few arguments
+pub few_arguments_of : (p : Problem) → passed p ≡ None → list_any has_many_arguments p.decls ≡ false
+few_arguments_of p h =
+    third (nat_lt most_clauses (length p.clauses)) (list_any has_many_variables p.clauses) (list_any has_many_arguments p.decls)
+    (limit Clauses most_clauses) (limit Variables most_variables) (limit Arguments most_arguments) h
+
 pub few_arguments : (p : Problem) (k : ℕ) (s : Signature) → passed p ≡ None → slice_get (signatures_from 1 p.decls) k ≡ Some s → length s.args ≤ most_arguments
 few_arguments p k s h e =
-    let few = third (nat_lt most_clauses (length p.clauses)) (list_any has_many_variables p.clauses) (list_any has_many_arguments p.decls)
-    (limit Clauses most_clauses) (limit Variables most_variables) (limit Arguments most_arguments) h in
-    few_there 1 p.decls k s few e
+    let ss = signatures_from 1 p.decls in
+    subst HasFewArguments (get_or_from_slice_get ss k s s e) (all_few_arguments 1 p.decls (few_arguments_of p h) k s (slice_get_within ss k s e))
 
 pub levels_within : (item : ℕ) (decls : List Decl) (k : ℕ) (s : Signature) → All HasLevel decls → slice_get (signatures_from item decls) k ≡ Some s → (1 ≤ s.level) × (s.level ≤ 16)
 levels_within item [] k s h e = absurd (cc)

@@ -1,8 +1,7 @@
 -- Values at which every line of a ground set is true give a structure that satisfies the problem.
-use Rattle.std.proofs.Common.{◌≡◌, ◌∙◌, ◌+◌, ◌≤◌, inl, inr, ◌⊎◌, ℕ, List, length, map, Option, Some, refl, sym, ap, subst, arith, length-append}
+use Rattle.std.proofs.Common.{◌≡◌, ◌∙◌, ◌+◌, ◌≤◌, inl, inr, ◌⊎◌, ℕ, List, length, map, Option, Some, refl, sym, ap, subst, arith}
 use Rattle.std.specs.Prelude.{slice_get}
 use Rattle.std.specs.List.{All, Contains}
-use Rattle.std.proofs.lemmas.List.{length-map}
 use Rattle.std.proofs.lemmas.List.Elements.{All-contains, Contains-append_left}
 use Rattle.hp_names.specs.Names.{AreDistinct}
 use Rattle.hp_tree.specs.declared.problem.Sort.{Sort}
@@ -52,16 +51,10 @@ use Rattle.hp_chain.proofs.ValuesClauses.{clauses_hold}
 use Rattle.hp_chain.proofs.ValuesDeclared.{are_levelled, constants_fit, declared_function, few_arguments, tables_fit}
 use Rattle.hp_chain.proofs.ValuesGround.{IsChained, ground_sets_are_fit, is_chained}
 use Rattle.hp_chain.proofs.ValuesPoints.{are_points, is_among_points, pairs_all}
+use Rattle.hp_defs.proofs.Growing.{length_sorts}
 use Rattle.hp_chain.proofs.ValuesSorts.{AreInside, have_sorts, points_inside, ranks_inside}
 use Rattle.hp_chain.proofs.ValuesTables.{AreCongruentPoints, point_long, row_value, rows_have_points, table_found}
 use Rattle.hp_chain.proofs.ValuesWords.{constants_agree, environment, words_agree}
-
--- ---- names
--- there are as many sorts as names
-many_sorts : (names : NameList) → length (sorts names) ≡ count names
-many_sorts names =
-    length-append (map constant_sort names.constants) (map (sort_of_definition names.signatures) names.definitions)
-    ∙ (λ i. length-map names.constants constant_sort i + length-map names.definitions (sort_of_definition names.signatures) i)
 
 module _ (p : Problem) (g : Ground) (is : IsGroundOf p g) (c : IsChained p g) (v : Values) (sorted : AreOfSorts (sorts c.base.names) v)
     (lines : All (λ (line : Line). LineIsTrue v line.lits) g.lines) (fit : All (IsFitLine c.base.names) g.lines) where
@@ -85,7 +78,7 @@ module _ (p : Problem) (g : Ground) (is : IsGroundOf p g) (c : IsChained p g) (v
   have = ranks_have_sorts (count names) ss v (have_sorts ss v sorted)
 
   inside : AreInside size ss w
-  inside = ranks_inside (count names) ss v (let e = many_sorts names in omega (arith, e)) (have_sorts ss v sorted)
+  inside = ranks_inside (count names) ss v (let e = length_sorts names in omega (arith, e)) (have_sorts ss v sorted)
 
   some : 1 ≤ size
   some = (are_ranks (count names) ss v).some
@@ -142,7 +135,7 @@ module _ (p : Problem) (g : Ground) (is : IsGroundOf p g) (c : IsChained p g) (v
   long : length (constants_of p.decls) ≤ length w
   long =
       let all = same_length ss w (all_of_sorts (rank (count names) ss v) ss v sorted) in
-      let total = many_sorts names in
+      let total = length_sorts names in
       let same = ap (λ (cs : List Constant). length cs) c.made.constants in
       omega (arith, all, total, same)
 

@@ -1,18 +1,7 @@
--- The applications of each function, by the places of their definitions, counted from 0.
-use Rattle.std.specs.Prelude.{◌≡◌, ℕ, suc, ◌<◌, List, [], ◌∷◌, ◌++◌, length, map, nat_eq, if◌then◌else◌, Option, Some, None, slice_get, slice_index_or, slice_set}
-use Rattle.hp_lit.specs.declared.line.Body.{Body}
-use Rattle.hp_lit.specs.declared.line.Body.TheVariants.{Apply, Sum}
+-- The applications at some places of definitions, counted from 0.
+use Rattle.std.specs.Prelude.{ℕ, List, [], ◌∷◌, ◌++◌, Option, Some, None, slice_get}
 use Rattle.hp_lit.specs.declared.line.Def.{Def}
 use Rattle.hp_base.specs.Congruence.{Point, point_of}
-
-abbrev pub body_place : ℕ → ℕ → Body → List ℕ
-body_place func at (Apply g args) = if nat_eq g func then at ∷ [] else []
-body_place func at (Sum lin) = []
-
--- the places of the applications of a function
-abbrev pub places : ℕ → List Def → List ℕ
-places func [] = []
-places func (d ∷ ds) = body_place func 0 d.body ++ map suc (places func ds)
 
 abbrev pub point_at : Option Def → List Point
 point_at None = []
@@ -22,16 +11,3 @@ point_at (Some d) = point_of d ∷ []
 abbrev pub points_at : List Def → List ℕ → List Point
 points_at ds [] = []
 points_at ds (k ∷ ks) = point_at (slice_get ds k) ++ points_at ds ks
-
--- the places of the applications of each of so many functions
-pub record AreByFunction (count : ℕ) (ds : List Def) (groups : List (List ℕ)) : Type 0 where
-  pub many : length groups ≡ count
-  pub each : (func : ℕ) → func < count → slice_index_or groups func [] ≡ places func ds
-
--- with one place more of a function
-abbrev pub with_place : List (List ℕ) → ℕ → ℕ → List (List ℕ)
-with_place groups at func = slice_set groups func (slice_index_or groups func [] ++ at ∷ [])
-
-abbrev pub with_body : List (List ℕ) → ℕ → Body → List (List ℕ)
-with_body groups at (Apply func args) = with_place groups at func
-with_body groups at (Sum lin) = groups

@@ -5,6 +5,7 @@ ghost use Rattle.hp_tree.specs.Limits.{most_clauses};
 ghost use Rattle.hp_terms.specs.Weight.{IsLight};
 ghost use Rattle.hp_terms.specs.Words.{IsPlain};
 ghost use Rattle.hp_sorts.specs.Faults.{sort_fault};
+ghost use Rattle.hp_defs.specs.Places;
 ghost use Rattle.hp_base.specs.Congruence.{congruence_at};
 ghost use Rattle.hp_base.specs.Making.{Makes, in_turn};
 ghost use Rattle.hp_norm.specs.Lines.{signatures_from};
@@ -12,11 +13,8 @@ ghost use Rattle.hp_norm.specs.Waiting.{is_waiting};
 ghost use Rattle.hp_chain.specs.Answers.{GroundMade, HasNamesOf};
 ghost use Rattle.hp_chain.specs.Ground.{function_lines};
 ghost use Rattle.hp_chain.specs.Order.{function_order};
-ghost use Rattle.hp_chain.specs.Places;
-ghost use Rattle.hp_chain.specs.Places.{AreByFunction};
 
 use crate::order::{function_order, levels};
-use crate::places::by_function;
 use hp_base::add_congruence;
 use hp_defs::Ground;
 use hp_lit::GroundErr;
@@ -62,33 +60,35 @@ fn add_lines(alloc: Global, g: &mut Ground, decls: &[Decl]) -> Result<(), Ground
 {
     let levels = levels(alloc, decls)?;
     let order = function_order(alloc, levels.as_slice())?;
-    let groups = by_function(alloc, levels.len(), g.names.definitions())?;
-    lines_of_all(alloc, g, order.as_slice(), groups.as_slice())
+    lines_of_all(alloc, g, order.as_slice())
 }
 
-/// Adds the lines of functions in this order, given by their places in the order of declarations, with the places of the
-/// applications of each function.
-fn lines_of_all(
-    alloc: Global,
-    g: &mut Ground,
-    order: &[u32],
-    groups: &[List<u32>],
-) -> Result<(), GroundErr>
+/// Adds the lines of functions in this order, given by their places in the order of declarations.
+fn lines_of_all(alloc: Global, g: &mut Ground, order: &[u32]) -> Result<(), GroundErr>
     requires known { All (λ func. func < length g.old.names.signatures) order.now }
-    requires groups { AreByFunction (length g.old.names.signatures) g.old.names.definitions groups.now }
     ensures made { Makes (in_turn function_lines order.now) g.old g.new result }
     ensures names { OnOk result (g.new.names ≡ g.old.names) }
 {
     for func in order {
-        lines_of(alloc, g, *func, groups[*func as usize].as_slice())?;
+        lines_of(alloc, g, *func)?;
     }
     Ok(())
 }
 
-/// Adds the lines of a function, whose applications have these places.
-fn lines_of(alloc: Global, g: &mut Ground, func: u32, places: &[u32]) -> Result<(), GroundErr>
+/// Adds the lines of a function.
+fn lines_of(alloc: Global, g: &mut Ground, func: u32) -> Result<(), GroundErr>
     requires known { func < length g.old.names.signatures }
-    requires places { places.now ≡ Rattle.hp_chain.specs.Places.places func g.old.names.definitions }
+    ensures made { Makes (function_lines func) g.old g.new result }
+    ensures names { OnOk result (g.new.names ≡ g.old.names) }
+{
+    let places = List::from_slice(alloc, g.names.of_function(func))?;
+    lines_at(alloc, g, func, places.as_slice())
+}
+
+/// Adds the lines of a function, whose applications have these places.
+fn lines_at(alloc: Global, g: &mut Ground, func: u32, places: &[u32]) -> Result<(), GroundErr>
+    requires known { func < length g.old.names.signatures }
+    requires places { places.now ≡ Rattle.hp_defs.specs.Places.places func g.old.names.definitions }
     ensures made { Makes (function_lines func) g.old g.new result }
     ensures names { OnOk result (g.new.names ≡ g.old.names) }
 {

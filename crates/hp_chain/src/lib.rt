@@ -1,12 +1,11 @@
 //! The ground set of a problem, and what ties it to the structures of the problem.
 #![tactic(auto)]
 
+mod cells;
 mod few;
 mod grounding;
-mod index;
 mod laws;
 mod order;
-mod places;
 mod structures;
 mod tables;
 

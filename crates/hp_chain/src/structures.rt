@@ -1,5 +1,5 @@
 //! The structure that values of names give.
-ghost use Rattle.std.specs.Prelude.{◌≡◌, ◌<◌, ◌≤◌, IfOk, ℕ, Some, false, length, map, slice_get};
+ghost use Rattle.std.specs.Prelude.{◌≡◌, ◌<◌, ◌≤◌, ◌^◌, IfOk, ℕ, Some, false, length, map, slice_get};
 ghost use Rattle.std.specs.List.{All, list_any};
 ghost use Rattle.hp_lit.specs.Sorts.{AreOfSorts};
 ghost use Rattle.hp_defs.specs.declared.names.Signature.{Signature};
@@ -8,12 +8,10 @@ ghost use Rattle.hp_defs.specs.Names.{constant_name};
 ghost use Rattle.hp_local.specs.Free.{free_table};
 ghost use Rattle.hp_norm.specs.Lines.{signatures_from};
 ghost use Rattle.hp_sorts.specs.Limits.{has_many_arguments};
-ghost use Rattle.hp_chain.specs.Places;
 ghost use Rattle.hp_chain.specs.Small.{AreSmallIdx, HasFewArguments, HasSmallSums};
 ghost use Rattle.hp_chain.specs.Structures.{const_values, facts_of, structure_of, tables_from};
 
 use crate::order::levels;
-use crate::places::by_function;
 use crate::tables::table;
 use hp_defs::{Constant, Names};
 use hp_lit::Valuation;
@@ -87,30 +85,27 @@ fn tables(
     values: &[Frac],
 ) -> Result<List<Table>, AllocError>
     requires count { count ≡ length names.now.signatures }
+    requires few { count < 2 ^ 32 }
     requires arguments { All HasFewArguments names.now.signatures }
     requires small { All (HasSmallSums values.now) names.now.definitions }
     ensures { IfOk result (λ made. made ≡ tables_from 0 names.now.signatures names.now values.now) }
 {
-    let groups = by_function(alloc, count, names.definitions())?;
     let mut made = List::new(alloc);
     for func in 0..count {
-        let places = groups[func].as_slice();
-        made.push(function_table(alloc, names, func as u32, places, values)?)?;
+        made.push(function_table(alloc, names, func as u32, values)?)?;
     }
     Ok(made)
 }
 
-/// The table of a function by its place in the order of declarations, with the places of its applications, both from 0.
+/// The table of a function by its place in the order of declarations, counted from 0.
 fn function_table(
     alloc: Global,
     names: &Names,
     func: u32,
-    places: &[u32],
     values: &[Frac],
 ) -> Result<Table, AllocError>
     requires known { func < length names.now.signatures }
     requires arguments { All HasFewArguments names.now.signatures }
-    requires places { places.now ≡ Rattle.hp_chain.specs.Places.places func names.now.definitions }
     requires small { All (HasSmallSums values.now) names.now.definitions }
     ensures { IfOk result (λ made. (s : Signature) → slice_get names.now.signatures func ≡ Some s → made ≡ free_table s.name (length s.args) (facts_of func s.name names.now values.now)) }
 {
@@ -121,7 +116,7 @@ fn function_table(
         &signature.name,
         args,
         names.definitions(),
-        places,
+        names.of_function(func),
         values,
     )
 }

@@ -14,7 +14,8 @@ ghost use Rattle.hp_chain.specs.Places.{points_at};
 ghost use Rattle.hp_chain.specs.Small.{HasSmallSums, IsSmallAt, IsSmallSum};
 ghost use Rattle.hp_chain.specs.Structures.{fact_of};
 
-use crate::index::{PointIndex, coordinates};
+use crate::cells::value_cells;
+use hp_defs::CellIndex;
 use hp_lit::{Arg, Body, Def, Name};
 use hp_model::{Row, Table};
 use hp_num::{Frac, List, Text, Whole};
@@ -36,7 +37,7 @@ pub fn table(
     requires small { All (HasSmallSums values.now) definitions.now }
     ensures { IfOk result (λ made. made ≡ free_table func.now args (map (fact_of func.now values.now) (points_at definitions.now places.now))) }
 {
-    let mut index = PointIndex::new(alloc);
+    let mut index = CellIndex::new(alloc);
     let mut rows = List::new(alloc);
     for place in places {
         let definition = &definitions[*place as usize];
@@ -59,7 +60,7 @@ fn zero() -> Frac
 /// Adds the row of an application where none has its arguments.
 fn add_point(
     alloc: Global,
-    index: &mut PointIndex,
+    index: &mut CellIndex,
     rows: &mut List<Row>,
     definition: &Def,
     values: &[Frac],
@@ -68,7 +69,7 @@ fn add_point(
     ensures { (word : Word) (facts : Items Fact) → AreKept facts index.old rows.old → OnOk result (AreKept (facts ++ fact_of word values.now (point_of definition.now) ∷ []) index.new rows.new) }
 {
     let args = arg_values(alloc, args_of(&definition.body), values)?;
-    let point = coordinates(alloc, args.as_slice())?;
+    let point = value_cells(alloc, args.as_slice())?;
     match index.position(point.as_slice()) {
         Some(_) => Ok(()),
         None => {

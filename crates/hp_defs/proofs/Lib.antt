@@ -3,6 +3,7 @@ pub mod Telling
 pub mod Bodies
 pub mod Same
 pub mod Lists
+pub mod Grouped
 pub mod Adding
 pub mod Distinct
 pub mod Growing

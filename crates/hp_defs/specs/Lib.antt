@@ -4,5 +4,6 @@ pub mod Same
 pub mod Made
 pub mod Fit
 pub mod Cells
+pub mod Places
 pub mod Indexed
 pub mod Laws

@@ -13,10 +13,12 @@ ghost use Rattle.hp_lit.specs.Words.{number};
 ghost use Rattle.hp_defs.specs.Cells.{body_cells};
 ghost use Rattle.hp_defs.specs.Made.{IsMade, IsSmallBody};
 ghost use Rattle.hp_defs.specs.Names.{constant_name, constant_words, count, definition_name, function_words, next, sort_of_body, sorts, with_constant, with_definition, with_signature, words};
+ghost use Rattle.hp_defs.specs.Places.{applied, places, with_place};
 ghost use Rattle.hp_defs.specs.Same.{place};
 
 use crate::cell::{Cell, cells_of};
 use crate::index::CellIndex;
+use crate::places::{add_place, applied, take_place};
 use crate::words::{push_named, word_of};
 use hp_lit::{Body, Def, Line, Name};
 use hp_names::NameIndex;
@@ -57,6 +59,7 @@ pub struct Names {
     word_index: NameIndex,
     function_index: NameIndex,
     definition_index: CellIndex,
+    places: Vec<List<u32>>,
 }
 
 impl Model for Names {
@@ -68,7 +71,7 @@ impl Model for Names {
 
     ghost view = { λ n. record { constants = n.declared; signatures = n.functions; definitions = n.made } };
 
-    ghost invariant = { λ n. IsIndexed (record { constants = n.declared; signatures = n.functions; definitions = n.made }) n.word_index n.function_index n.definition_index };
+    ghost invariant = { λ n. IsIndexed (record { constants = n.declared; signatures = n.functions; definitions = n.made }) n.word_index n.function_index n.definition_index n.places.items };
 }
 
 impl Names {
@@ -83,6 +86,7 @@ impl Names {
             word_index: NameIndex::new(alloc),
             function_index: NameIndex::new(alloc),
             definition_index: CellIndex::new(alloc),
+            places: Vec::new(alloc),
         }
     }
 
@@ -119,14 +123,20 @@ impl Names {
     {
         let alloc = self.definition_index.alloc();
         let word = signature.name.copy(alloc)?;
-        push_named(
+        self.places.push(List::new(alloc))?;
+        match push_named(
             alloc,
             &mut self.functions,
             &mut self.function_index,
             signature,
             word.as_slice(),
-        )?;
-        Ok(())
+        ) {
+            Ok(()) => Ok(()),
+            Err(error) => {
+                self.places.pop();
+                Err(error)
+            }
+        }
     }
 
     /// How many constants and definitions there are.
@@ -191,6 +201,15 @@ impl Names {
         ensures made { IsMade self.now }
     {
         self.made.as_slice()
+    }
+
+    /// The places of the definitions that apply a function, counted from 0, in the order of their making. The function is
+    /// given by its place in the order of declarations, counted from 0.
+    pub fn of_function(&self, func: u32) -> &[u32]
+        requires { func < length self.now.signatures }
+        ensures { result.now ≡ places func self.now.definitions }
+    {
+        self.places[func as usize].as_slice()
     }
 
     /// The signature of a function, by its place in the order of declarations, counted from 0.
@@ -268,10 +287,11 @@ impl Names {
         let name = Name(self.declared.len() as u32 + self.made.len() as u32);
         let definition = Def { name, body };
         self.definition_index.add(cells)?;
-        match push_named(
+        match push_definition(
             alloc,
             &mut self.made,
             &mut self.word_index,
+            &mut self.places,
             definition,
             word.as_slice(),
         ) {
@@ -280,6 +300,35 @@ impl Names {
                 self.definition_index.truncate(self.made.len());
                 Err(error)
             }
+        }
+    }
+}
+
+/// Adds a definition with its word, which there is not yet, and its place. At `Err` all are as before.
+fn push_definition(
+    alloc: Global,
+    made: &mut List<Def>,
+    words: &mut NameIndex,
+    groups: &mut Vec<List<u32>>,
+    definition: Def,
+    word: &[u8],
+) -> Result<(), AllocError>
+    requires few { length made.old < 2 ^ 32 }
+    requires fresh { is_among word.now words.old ≡ false }
+    ensures added { OnOk result (made.new ≡ made.old ++ definition ∷ []) }
+    ensures indexed { OnOk result (words.new ≡ words.old ++ word.now ∷ []) }
+    ensures placed { OnOk result (groups.new.items ≡ with_place groups.old.items (length made.old) (applied definition.body)) }
+    ensures unchanged { OnErr result (made.new ≡ made.old) }
+    ensures unindexed { OnErr result (words.new ≡ words.old) }
+    ensures unplaced { OnErr result (groups.new.items ≡ groups.old.items) }
+{
+    let func = applied(&definition.body);
+    add_place(groups, made.len() as u32, func)?;
+    match push_named(alloc, made, words, definition, word) {
+        Ok(()) => Ok(()),
+        Err(error) => {
+            take_place(groups, func);
+            Err(error)
         }
     }
 }

@@ -1,19 +1,19 @@
 -- The ground set of a problem has what the search and the texts ask.
 use Rattle.std.proofs.Common.{◌≡◌, ℕ, zero, suc, ◌<◌, ◌≤◌, ◌^◌, ◌+◌, List, [], ◌∷◌, Bool, true, false, cond, nat_lt, Option, Some, None, length, refl, sym, subst, map, arith}
 use Rattle.std.specs.Prelude.{slice_get, Ok}
-use Rattle.std.specs.List.{All, list_any}
+use Rattle.std.specs.List.{All}
 use Rattle.std.proofs.lemmas.Bool.{ltb-false}
 use Rattle.std.proofs.lemmas.List.Elements.{All-nil, All-cons, All-head, All-tail}
-use Rattle.hp_tree.specs.Limits.{most_arguments, most_clauses, most_variables}
+use Rattle.hp_tree.specs.Limits.{most_clauses}
 use Rattle.hp_tree.specs.declared.limit.Limit.{Limit}
-use Rattle.hp_tree.specs.declared.limit.Which.TheVariants.{Arguments, Clauses, Variables}
+use Rattle.hp_tree.specs.declared.limit.Which.TheVariants.{Clauses}
 use Rattle.hp_tree.specs.declared.problem.Decl.{Decl}
 use Rattle.hp_tree.specs.declared.problem.Decl.TheVariants.{Const, Fun}
 use Rattle.hp_tree.specs.declared.problem.Problem.{Problem}
 use Rattle.hp_terms.specs.Weight.{IsLight}
 use Rattle.hp_terms.specs.Words.{IsPlain, declared_word}
 use Rattle.hp_sorts.specs.Faults.{sort_fault}
-use Rattle.hp_sorts.specs.Limits.{has_many_arguments, has_many_variables, limit, passed}
+use Rattle.hp_sorts.specs.Limits.{limit, passed}
 use Rattle.hp_norm.specs.Waiting.{is_waiting}
 use Rattle.hp_chain.specs.Ground.{ground_of}
 use Rattle.hp_lit.specs.declared.line.Body.{Body}
@@ -96,19 +96,8 @@ first : (a : Bool) (x : Limit) (rest : Option Limit) → cond a (Some x) rest �
 first true x rest e = absurd (cc)
 first false x rest e = refl
 
-third : (a b c : Bool) (x y z : Limit) → cond a (Some x) (cond b (Some y) (cond c (Some z) None)) ≡ None → c ≡ false
-third true b c x y z e = absurd (cc)
-third false true c x y z e = absurd (cc)
-third false false true x y z e = absurd (cc)
-third false false false x y z e = refl
-
 pub few_clauses : (p : Problem) → passed p ≡ None → length p.clauses ≤ most_clauses
 few_clauses p h = ltb-false most_clauses (length p.clauses) (first (nat_lt most_clauses (length p.clauses)) (limit Clauses most_clauses) _ h)
-
-pub few_arguments_of : (p : Problem) → passed p ≡ None → list_any has_many_arguments p.decls ≡ false
-few_arguments_of p h =
-    third (nat_lt most_clauses (length p.clauses)) (list_any has_many_variables p.clauses) (list_any has_many_arguments p.decls)
-    (limit Clauses most_clauses) (limit Variables most_variables) (limit Arguments most_arguments) h
 
 -- ---- the ground set that was made
 pub is_ground : (p : Problem) (g : Ground) → sort_fault p ≡ None → is_waiting p ≡ false → IsLight p → IsPlain p → length p.decls < 2 ^ 28 → passed p ≡ None → ground_of p ≡ Ok g

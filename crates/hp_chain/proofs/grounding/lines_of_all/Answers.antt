@@ -7,9 +7,10 @@ use Rattle.hp_chain.proofs.grounding.lines_of_all.Goals as goal
 pub loop-func-init : goal.loop-func-init
 loop-func-init c = turned_start function_lines c.args.order.now c.args.g.now
 
-pub lines_of-requires-clause-known : goal.lines_of-requires-clause-known
-lines_of-requires-clause-known c =
-    subst (λ (n : NameList). get_or c.args.order.now c.loop-func.func-index 0 < length n.signatures) (sym c.loop-func.invariant.names) (c.requires.known c.loop-func.func-index 0 c.loop-func-test.true)
+pub lines_of-requires : goal.lines_of-requires
+lines_of-requires c = record {
+  known = subst (λ (n : NameList). get_or c.args.order.now c.loop-func.func-index 0 < length n.signatures) (sym c.loop-func.invariant.names) (c.requires.known c.loop-func.func-index 0 c.loop-func-test.true);
+}
 
 pub returns-in_err-lines_of-clause-made : goal.returns-in_err-lines_of-clause-made
 returns-in_err-lines_of-clause-made c =

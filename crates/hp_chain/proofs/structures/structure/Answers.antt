@@ -28,6 +28,11 @@ pub tables-requires-clause-count : goal.tables-requires-clause-count
 tables-requires-clause-count c =
     c.len-count.ensures ∙ ap length c.in_ok-levels.ensures ∙ levels_many 1 c.args.decls.now ∙ ap (λ (ss : List Signature). length ss) (sym c.requires.declared)
 
+pub tables-requires-clause-few : goal.tables-requires-clause-few
+tables-requires-clause-few c =
+    let all = c.len-count.ensures ∙ ap length c.in_ok-levels.ensures ∙ levels_many 1 c.args.decls.now ∙ ap (λ (ss : List Signature). length ss) (sym c.requires.declared) in
+    omega (arith, all, c.count-first.ensures.made.few_functions)
+
 pub tables-requires-clause-arguments : goal.tables-requires-clause-arguments
 tables-requires-clause-arguments c =
     subst (λ (ss : List Signature). All HasFewArguments ss) (sym c.requires.declared) (few_arguments 1 c.args.decls.now c.requires.arguments)

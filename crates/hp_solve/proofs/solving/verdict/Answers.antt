@@ -9,7 +9,8 @@ use Rattle.hp_lit.specs.Sorts.{AreOfSorts}
 use Rattle.hp_tree.specs.declared.problem.Sort.{Sort}
 use Rattle.hp_sorts.specs.Limits.{has_many_arguments}
 use Rattle.hp_norm.specs.Lines.{signatures_from}
-use Rattle.hp_solve.proofs.Grounded.{few_arguments_of, names_named, names_on_one_line}
+use Rattle.hp_chain.proofs.ValuesDeclared.{few_arguments_of}
+use Rattle.hp_solve.proofs.Grounded.{names_named, names_on_one_line}
 use Rattle.hp_solve.proofs.Splits.{closed_reading, closed_splits, spent_reading, spent_splits}
 use Rattle.hp_solve.proofs.Verdicts.{sat_from, none_from}
 use Rattle.hp_solve.proofs.solving.verdict.Goals as goal

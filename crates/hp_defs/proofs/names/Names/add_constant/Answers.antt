@@ -14,7 +14,7 @@ push_named-requires c =
     let before = subst (λ (n : NameList). n.definitions ≡ []) (sym c.self.view_is) c.requires.before in
     let fresh = subst (λ (n : NameList). is_among c.args.name (constant_words n) ≡ false) (sym c.self.view_is) c.requires.fresh in
     let copied : c.as_slice.result.now ≡ c.args.name = c.as_slice.ensures ∙ c.in_ok-word.ensures in
-    ap (λ (w : Word). is_among w inside.word_index) copied ∙ fresh_word names inside.word_index inside.function_index inside.definition_index c.self.invariant c.args.name before fresh
+    ap (λ (w : Word). is_among w inside.word_index) copied ∙ fresh_word names inside.word_index inside.function_index inside.definition_index inside.places.items c.self.invariant c.args.name before fresh
 
 pub invariant_of-self-2 : goal.invariant_of-self-2
 invariant_of-self-2 c =
@@ -24,5 +24,5 @@ invariant_of-self-2 c =
     let room = subst (λ (n : NameList). length n.constants < most_names) (sym c.self.view_is) c.requires.few in
     let before = subst (λ (n : NameList). n.definitions ≡ []) (sym c.self.view_is) c.requires.before in
     let fresh = subst (λ (n : NameList). is_among c.args.name (constant_words n) ≡ false) (sym c.self.view_is) c.requires.fresh in
-    constant_more names inside.word_index inside.function_index inside.definition_index c.self.invariant constant c.push_named.new.items c.push_named.new.index room before fresh c.requires.plain c.in_ok-push_named.ensures.added
+    constant_more names inside.word_index inside.function_index inside.definition_index inside.places.items c.self.invariant constant c.push_named.new.items c.push_named.new.index room before fresh c.requires.plain c.in_ok-push_named.ensures.added
     (c.in_ok-push_named.ensures.indexed ∙ ap (λ (w : Word). inside.word_index ++ w ∷ []) (c.as_slice.ensures ∙ c.in_ok-word.ensures))

@@ -1,14 +1,17 @@
--- The places of the applications of each function, while definitions are added one by one.
-use Rattle.std.proofs.Common.{◌≡◌, ℕ, zero, suc, ◌+◌, ◌<◌, ◌≤◌, List, [], ◌∷◌, ◌++◌, true, false, cond, map, length, take, get_or, nat_eq, refl, sym, ap, subst, ◌∙◌, append-nil, append_assoc, arith, length-append, add-one}
+-- The places of the applications of each function, while functions and definitions are added one by one.
+use Rattle.std.proofs.Common.{◌≡◌, ℕ, zero, suc, ◌<◌, List, [], ◌∷◌, ◌++◌, Option, Some, true, false, cond, map, length, get_or, nat_eq, refl, sym, ap, subst, ◌∙◌, append-nil, append_assoc, arith, length-append, add-one}
 use Rattle.std.proofs.Common.{get_or-set_other, get_or-set_same}
+use Rattle.std.specs.Option.{MatchOption}
+use Rattle.std.specs.Prelude.{slice_set}
 use Rattle.std.proofs.lemmas.Bool.{eqb-true, eqb-false}
-use Rattle.std.proofs.lemmas.List.{length-set, map-append, take_all}
+use Rattle.std.proofs.lemmas.List.{length-set, map-append}
 use Rattle.hp_lit.specs.declared.line.Body.{Body}
 use Rattle.hp_lit.specs.declared.line.Body.TheVariants.{Apply, Sum}
 use Rattle.hp_lit.specs.declared.line.Def.{Def}
-use Rattle.hp_chain.specs.Places.{AreByFunction, body_place, places, with_body, with_place}
+use Rattle.hp_defs.specs.Places.{AreByFunction, applied, body_place, places, with_place}
+use Rattle.hp_defs.proofs.Lists.{taken_off}
 
--- ---- no definition
+-- ---- functions before all definitions
 get_more : {A : Type 0} (xs : List A) (x d : A) (k : ℕ) → ((j : ℕ) → j < length xs → get_or xs j d ≡ x) → k < suc (length xs) → get_or (xs ++ x ∷ []) k d ≡ x
 get_more [] x d zero h l = refl
 get_more [] x d (suc k) h l = absurd (omega arith)
@@ -39,28 +42,28 @@ places_more func (x ∷ ds) d =
     ∙ ap (λ ks. map suc (places func ds) ++ ks) (suc_place func (length ds) d.body))
     ∙ sym (append_assoc (body_place func 0 x.body) (map suc (places func ds)) (body_place func (suc (length ds)) d.body))
 
-applied : (groups : List (List ℕ)) (at g func : ℕ) → func < length groups
-    → get_or (with_place groups at g) func [] ≡ get_or groups func [] ++ cond (nat_eq g func) (at ∷ []) []
-applied groups at g func h = (elim (nat_eq g func) as (λ b. nat_eq g func ≡ b → get_or (with_place groups at g) func [] ≡ get_or groups func [] ++ cond b (at ∷ []) []) [
+placed : (groups : List (List ℕ)) (at g func : ℕ) → func < length groups
+    → get_or (with_place groups at (Some g)) func [] ≡ get_or groups func [] ++ cond (nat_eq g func) (at ∷ []) []
+placed groups at g func h = (elim (nat_eq g func) as (λ b. nat_eq g func ≡ b → get_or (with_place groups at (Some g)) func [] ≡ get_or groups func [] ++ cond b (at ∷ []) []) [
   | true ↦ λ t. (let e : g ≡ func = eqb-true g func t in
       let inside : g < length groups = omega arith in
-      ap (λ k. get_or (with_place groups at g) k []) (sym e)
+      ap (λ k. get_or (with_place groups at (Some g)) k []) (sym e)
       ∙ get_or-set_same groups g (get_or groups g [] ++ at ∷ []) [] inside
       ∙ ap (λ k. get_or groups k [] ++ at ∷ []) e)
   | false ↦ λ t. get_or-set_other groups g func (get_or groups g [] ++ at ∷ []) [] (λ e. eqb-false g func t (sym e)) ∙ sym (append-nil (get_or groups func []))
 ]) refl
 
 body_more : (groups : List (List ℕ)) (at func : ℕ) (body : Body) → func < length groups
-    → get_or (with_body groups at body) func [] ≡ get_or groups func [] ++ body_place func at body
-body_more groups at func (Apply g args) h = applied groups at g func h
+    → get_or (with_place groups at (applied body)) func [] ≡ get_or groups func [] ++ body_place func at body
+body_more groups at func (Apply g args) h = placed groups at g func h
 body_more groups at func (Sum lin) h = sym (append-nil (get_or groups func []))
 
-body_many : (groups : List (List ℕ)) (at : ℕ) (body : Body) → length (with_body groups at body) ≡ length groups
+body_many : (groups : List (List ℕ)) (at : ℕ) (body : Body) → length (with_place groups at (applied body)) ≡ length groups
 body_many groups at (Apply g args) = length-set groups g (get_or groups g [] ++ at ∷ [])
 body_many groups at (Sum lin) = refl
 
-by_function_more : (count : ℕ) (ds : List Def) (d : Def) (groups : List (List ℕ)) → AreByFunction count ds groups
-    → AreByFunction count (ds ++ d ∷ []) (with_body groups (length ds) d.body)
+pub by_function_more : (count : ℕ) (ds : List Def) (d : Def) (groups : List (List ℕ)) → AreByFunction count ds groups
+    → AreByFunction count (ds ++ d ∷ []) (with_place groups (length ds) (applied d.body))
 by_function_more count ds d groups a = record {
   many = body_many groups (length ds) d.body ∙ a.many;
   each = λ func h.
@@ -69,26 +72,16 @@ by_function_more count ds d groups a = record {
       ∙ sym (places_more func ds d);
 }
 
-pub take_next : {A : Type 0} (xs : List A) (i : ℕ) (x d : A) → i < length xs → x ≡ get_or xs i d → take (suc i) xs ≡ take i xs ++ x ∷ []
-take_next [] i x d h e = absurd (omega arith)
-take_next (y ∷ xs) zero x d h e = ap (λ z. z ∷ []) (sym e)
-take_next (y ∷ xs) (suc i) x d h e = ap (λ zs. y ∷ zs) (take_next xs i x d (omega arith) e)
+-- ---- one definition less
+set_back : (kept : List (List ℕ)) (at g : ℕ) (left : List ℕ) → g < length kept → left ≡ get_or kept g [] → slice_set (with_place kept at (Some g)) g left ≡ kept
+set_back [] at g left h e = absurd (omega arith)
+set_back (x ∷ xs) at zero left h e = ap (λ y. y ∷ xs) e
+set_back (x ∷ xs) at (suc g) left h e = ap (λ ys. x ∷ ys) (set_back xs at g left (omega arith) e)
 
-take_length : {A : Type 0} (xs : List A) (i : ℕ) → i ≤ length xs → length (take i xs) ≡ i
-take_length xs zero h = refl
-take_length [] (suc i) h = absurd (omega arith)
-take_length (x ∷ xs) (suc i) h = ap suc (take_length xs i (omega arith))
-
--- a step of a walk over definitions
-pub by_function_step : (count i : ℕ) (ds : List Def) (d : Def) (groups more : List (List ℕ)) → i < length ds → d ≡ get_or ds i d
-    → AreByFunction count (take i ds) groups → more ≡ with_body groups i d.body → AreByFunction count (take (i + 1) ds) more
-by_function_step count i ds d groups more h e a is =
-    let now : AreByFunction count (take i ds ++ d ∷ []) (with_body groups (length (take i ds)) d.body) = by_function_more count (take i ds) d groups a in
-    let at : length (take i ds) ≡ i = take_length ds i (omega arith) in
-    let all : take (i + 1) ds ≡ take i ds ++ d ∷ [] = ap (λ k. take k ds) (add-one i) ∙ take_next ds i d d h e in
-    subst (λ gs. AreByFunction count (take (i + 1) ds) gs) (sym is)
-    (subst (λ (es : List Def). AreByFunction count es (with_body groups i d.body)) (sym all)
-    (subst (λ k. AreByFunction count (take i ds ++ d ∷ []) (with_body groups k d.body)) at now))
-
-pub by_function_end : (count i : ℕ) (ds : List Def) (groups : List (List ℕ)) → length ds ≤ i → AreByFunction count (take i ds) groups → AreByFunction count ds groups
-by_function_end count i ds groups h a = subst (λ (es : List Def). AreByFunction count es groups) (take_all i ds h) a
+-- what is left when the place that was put last is taken off
+pub place_off : (groups kept : List (List ℕ)) (at g : ℕ) (r : Option ℕ) (old left d : List ℕ) → groups ≡ with_place kept at (Some g) → g < length groups
+    → old ≡ get_or groups g d → MatchOption r ((old ≡ []) × (left ≡ [])) (λ last. old ≡ left ++ last ∷ []) → slice_set groups g left ≡ kept
+place_off groups kept at g r old left d is h e m =
+    let inside : g < length kept = subst (λ n. g < n) (ap (λ gs. length gs) is ∙ length-set kept g (get_or kept g [] ++ at ∷ [])) h in
+    let last : old ≡ get_or kept g [] ++ at ∷ [] = e ∙ ap (λ gs. get_or gs g d) is ∙ get_or-set_same kept g (get_or kept g [] ++ at ∷ []) d inside in
+    ap (λ gs. slice_set gs g left) is ∙ set_back kept at g left inside (taken_off (get_or kept g []) at r old left last m)

@@ -2,7 +2,7 @@ use Rattle.std.proofs.Common.{ℕ, suc, ◌<◌, List, Ok, length, subst, sym, a
 use Rattle.std.specs.List.{All}
 use Rattle.hp_defs.specs.Names.{NameList}
 use Rattle.hp_chain.proofs.Pairing.{all_drop, function_made, paired_end, paired_err, paired_more, paired_start, places_known, rest_is}
-use Rattle.hp_chain.proofs.grounding.lines_of.Goals as goal
+use Rattle.hp_chain.proofs.grounding.lines_at.Goals as goal
 
 pub loop-at-init : goal.loop-at-init
 loop-at-init c = paired_start c.args.func c.args.places.now c.args.g.now

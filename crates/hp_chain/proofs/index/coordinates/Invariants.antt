@@ -1,6 +1,0 @@
-use Rattle.std.proofs.Common.{◌≡◌, map, take}
-use Rattle.hp_chain.specs.Kept.{coordinate}
-use Rattle.hp_chain.proofs.index.coordinates.Given as goal
-
-abbrev pub invariant-loop-value : goal.invariant-loop-value
-invariant-loop-value l = l.point.items ≡ map coordinate (take l.value-index l.values)
