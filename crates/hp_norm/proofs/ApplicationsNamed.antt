@@ -1,15 +1,14 @@
 -- An application becomes the word of its definition: each argument is named and taken as an argument before the next one.
 use Rattle.std.proofs.Common.{◌≡◌, ℕ, ◌≤◌, List, [], ◌∷◌, map, true, Option, Some, Ok, slice_get, refl, sym, ap, subst, ◌∙◌, arith}
-use Rattle.std.specs.Prelude.{if◌then◌else◌, option_map}
+use Rattle.std.specs.Prelude.{option_map}
 use Rattle.std.specs.List.{All, AllZip}
 use Rattle.std.proofs.lemmas.List.Elements.{All-nil, All-cons}
 use Rattle.hp_tree.specs.declared.term.Term.{Term, Name, fold-roll-Term, roll-Term}
 use Rattle.hp_tree.specs.declared.term.Term.TheOpen.{Term-F}
 use Rattle.hp_tree.specs.declared.term.Term.TheVariants.{rolls-Name}
 use Rattle.hp_tree.specs.declared.problem.Sort.{Sort}
-use Rattle.hp_tree.specs.declared.problem.Problem.{Problem}
 use Rattle.hp_tree.specs.Value.{Word, Environment, Functions, value}
-use Rattle.hp_terms.specs.Scope.{Profile}
+use Rattle.hp_terms.specs.Scope.{Profile, Scope}
 use Rattle.hp_terms.specs.Sorting.{application_forms, fit, forms_of, has_form, name_forms}
 use Rattle.hp_terms.specs.Weight.{largest_offset, weight, weight_step, weights}
 use Rattle.hp_terms.proofs.Parts.{applications_follow_profiles}
@@ -38,18 +37,17 @@ use Rattle.hp_base.proofs.ArgsDefinitions.{definitions_begin, definitions_fit, d
 use Rattle.hp_base.proofs.ArgsMade.{arguments_are_small, arguments_begin, arguments_fit, arguments_keep_fit, arguments_keep_made, arguments_keep_sums, arguments_say, arguments_stay_fit}
 use Rattle.hp_base.proofs.ArgsScopes.{defined_names_have_words, defined_words_have_sorts}
 use Rattle.hp_base.proofs.SumsHold.{sums_hold_by_bodies}
-use Rattle.hp_sorts.specs.Scopes.{problem_scope}
 use Rattle.hp_norm.specs.Naming.{applied, applied_at, arguments, name_term, named, placed, placed_argument, signed}
-use Rattle.hp_norm.specs.Laws.{IsMadeOf}
-use Rattle.hp_norm.proofs.DeclaredWords.{IsKnown, function_is_known}
+use Rattle.hp_norm.specs.Sound.{AreValues, Grew, IsLater}
 use Rattle.hp_norm.proofs.FormsKept.{KeepsForms, result_kept}
-use Rattle.hp_norm.proofs.GroundsGrew.{Grew, argument_grew, definition_grew, grew_same, grew_through}
-use Rattle.hp_norm.proofs.TermsKept.{AreValues, IsKeptLayer, IsLater, kept_layer, later_through}
-use Rattle.hp_norm.proofs.TermsNamed.{IsNameableTerm, IsNamed, IsNamedAlways, named_to}
+use Rattle.hp_norm.proofs.GroundsGrew.{argument_grew, definition_grew, grew_same, grew_through}
+use Rattle.hp_norm.proofs.NamedWords.{IsKnown, IsOver, function_is_known, scope_grows}
+use Rattle.hp_norm.proofs.TermsKept.{IsKeptLayer, kept_layer, later_through}
+use Rattle.hp_norm.proofs.TermsNamed.{by_names, IsNameableTerm, IsNamed, IsNamedAlways, named_to}
 
-module _ (p : Problem) (item : ℕ) where
+module _ (scope : Scope) (item : ℕ) where
   abbrev Part : Type 0
-  Part = Parts (IsNamedAlways p item)
+  Part = Parts (IsNamedAlways scope item)
 
   abbrev terms : List Part → List Term
   terms args = map (λ (e : Part). e.0) args
@@ -58,29 +56,27 @@ module _ (p : Problem) (item : ℕ) where
   -- an argument was made: it has the sort of its place and the value of the term
   record IsArgument (term : Term) (place : Sort) (before after : Ground) (x : Arg) : Type 0 where
     grew : Grew before after
-    made : IsMadeOf p after
+    over : IsOver scope after
     fits : ArgFits (sorts after.names) place x
     small : IsSmallArg x
     same : (end : Ground) (v : Values) (env : Environment) (functions : Functions) → IsLater after end → AreValues end v env functions → arg_value v x ≡ value env functions term
 
-  argument_named : (term : Term) (place : Sort) (x : Arg) (before after : Ground) → IsNamedAlways p item term → has_form (forms_of (problem_scope p []) term) place ≡ true → weight term ≤ largest_offset
-      → IsMadeOf p before → placed_argument item (record { named = named item term; sort = place }) before ≡ Ok (x, after) → IsArgument term place before after x
-  argument_named term place x before after always formed light made e =
+  argument_named : (term : Term) (place : Sort) (x : Arg) (before after : Ground) → IsNamedAlways scope item term → has_form (forms_of scope term) place ≡ true → weight term ≤ largest_offset
+      → IsOver scope before → placed_argument item (record { named = named item term; sort = place }) before ≡ Ok (x, after) → IsArgument term place before after x
+  argument_named term place x before after always formed light over e =
       let s = came (named item term before) (λ t. argument_of item place t) x after e in
-      let h = always s.value before s.mid (record { sorted = record { sort = place; is = formed }; light = light }) made s.first in
-      let keeps = (h.kept.forms s.mid (record { begins = begins_same s.mid; made = h.made.made })).sorts place formed in
-      let fits = arguments_fit item place s.value x s.mid after s.rest h.made.names keeps in
+      let h = always s.value before s.mid (record { sorted = record { sort = place; is = formed }; light = light }) over s.first in
+      let sound = h.over.sound in
+      let keeps = (h.kept.forms s.mid (record { begins = begins_same s.mid; made = sound.made })).sorts place formed in
+      let fits = arguments_fit item place s.value x s.mid after s.rest sound.names keeps in
+      let made = arguments_keep_made item place s.value x s.mid after s.rest sound.made in
       let begins = arguments_begin item place s.value x s.mid after s.rest in
       let less = h.kept.light in
       record {
         grew = grew_through before s.mid after h.grew (argument_grew item place s.value x s.mid after s.rest);
-        made = record {
-          constants = begins.constants ∙ h.made.constants;
-          signatures = begins.signatures ∙ h.made.signatures;
-          made = arguments_keep_made item place s.value x s.mid after s.rest h.made.made;
-          names = fits.1;
-          lines = arguments_keep_fit item place s.value x s.mid after s.rest keeps h.made.lines;
-          sums = arguments_keep_sums item place s.value x s.mid after s.rest h.made.sums;
+        over = record {
+          sound = record { made = made; names = fits.1; lines = arguments_keep_fit item place s.value x s.mid after s.rest keeps sound.lines; sums = arguments_keep_sums item place s.value x s.mid after s.rest sound.sums };
+          wider = scope_grows scope s.mid after begins made h.over.wider;
         };
         fits = fits.0;
         small = arguments_are_small item place s.value x s.mid after s.rest (omega (arith, less, light));
@@ -91,7 +87,7 @@ module _ (p : Problem) (item : ℕ) where
 
   record AreArguments (args : List Term) (places : List Sort) (before after : Ground) (xs : List Arg) : Type 0 where
     grew : Grew before after
-    made : IsMadeOf p after
+    over : IsOver scope after
     fit : AllZip (ArgFits (sorts after.names)) places xs
     small : All IsSmallArg xs
     same : (end : Ground) (v : Values) (env : Environment) (functions : Functions) → IsLater after end → AreValues end v env functions → arg_values v xs ≡ map (value env functions) args
@@ -100,25 +96,25 @@ module _ (p : Problem) (item : ℕ) where
   arguments_to args places before mid after xs ys e f h = subst (λ (zs : List Arg). AreArguments args places before after zs) e (subst (λ (g : Ground). AreArguments args places before g xs) f h)
 
   arguments_named : (args : List Part) (places : List Sort) (xs : List Arg) (before after : Ground)
-      → AllZip (λ arg place. has_form (forms_of (problem_scope p []) arg) place ≡ true) (terms args) places → weights (map weight (terms args)) ≤ largest_offset
-      → IsMadeOf p before → arguments item places (map (named item) (terms args)) before ≡ Ok (xs, after) → AreArguments (terms args) places before after xs
-  arguments_named [] [] xs before after h light made e =
+      → AllZip (λ arg place. has_form (forms_of scope arg) place ≡ true) (terms args) places → weights (map weight (terms args)) ≤ largest_offset
+      → IsOver scope before → arguments item places (map (named item) (terms args)) before ≡ Ok (xs, after) → AreArguments (terms args) places before after xs
+  arguments_named [] [] xs before after h light over e =
       let g = gave [] xs before after e in
       arguments_to [] [] before before after [] xs g.value g.ground
-      (record { grew = grew_same before; made = made; fit = tt; small = All-nil IsSmallArg; same = λ end v env functions l values. refl })
-  arguments_named [] (place ∷ places) xs before after h light made e = absurd h
-  arguments_named (arg ∷ args) [] xs before after h light made e = absurd h
-  arguments_named (arg ∷ args) (place ∷ places) xs before after h light made e =
+      (record { grew = grew_same before; over = over; fit = tt; small = All-nil IsSmallArg; same = λ end v env functions l values. refl })
+  arguments_named [] (place ∷ places) xs before after h light over e = absurd h
+  arguments_named (arg ∷ args) [] xs before after h light over e = absurd h
+  arguments_named (arg ∷ args) (place ∷ places) xs before after h light over e =
       let more = placed (map (named item) (terms args)) places in
       let s = came (placed_argument item (record { named = named item arg.0; sort = place }) before) (λ y. λ mid. each (placed_argument item) more mid then λ ys. λ end. Ok (y ∷ ys, end)) xs after e in
-      let one = argument_named arg.0 place s.value before s.mid arg.1 h.0 (omega (arith, light)) made s.first in
+      let one = argument_named arg.0 place s.value before s.mid arg.1 h.0 (omega (arith, light)) over s.first in
       let t = came (each (placed_argument item) more s.mid) (λ ys. λ end. Ok (s.value ∷ ys, end)) xs after s.rest in
-      let rest = arguments_named args places t.value s.mid t.mid h.1 (omega (arith, light)) one.made t.first in
+      let rest = arguments_named args places t.value s.mid t.mid h.1 (omega (arith, light)) one.over t.first in
       let g = gave (s.value ∷ t.value) xs t.mid after t.rest in
       arguments_to (arg.0 ∷ terms args) (place ∷ places) before t.mid after (s.value ∷ t.value) xs g.value g.ground
       (record {
         grew = grew_through before s.mid t.mid one.grew rest.grew;
-        made = rest.made;
+        over = rest.over;
         fit = (arguments_stay_fit s.mid t.mid place s.value rest.grew.begins one.fits, rest.fit);
         small = All-cons IsSmallArg s.value t.value one.small rest.small;
         same = λ end v env functions l values.
@@ -126,7 +122,7 @@ module _ (p : Problem) (item : ℕ) where
       })
 
   -- ---- definitions
-  module _ (word : Word) (args : List Term) (profile : Profile) (before mid after : Ground) (known : IsKnown p before.names word profile) (xs : List Arg) (name : literal.Name)
+  module _ (word : Word) (args : List Term) (profile : Profile) (before mid after : Ground) (known : IsKnown before.names word profile) (xs : List Arg) (name : literal.Name)
       (given : AreArguments args known.signature.args before mid xs) (e : definition_of known.func xs mid ≡ Ok (name, after)) where
     abbrev own : Word
     own = definition_word after.names name
@@ -160,22 +156,24 @@ module _ (p : Problem) (item : ℕ) where
         ∙ ap (λ (o : Option Signature). signature_function functions o (arg_values v xs)) (signature_at end l.begins)
         ∙ (λ i. functions (known.name i) (given.same end v env functions (later_through mid after end begins l) values i))
 
-    word_made : IsMadeOf p after
-    word_made =
+    word_over : IsOver scope after
+    word_over =
         let begins = definitions_begin known.func xs name mid after e in
         let there = ap (λ (ss : List Signature). slice_get ss known.func) given.grew.begins.signatures ∙ known.there in
+        let sound = given.over.sound in
+        let made = definitions_keep_made known.func xs name mid after e given.small sound.made in
         record {
-          constants = begins.constants ∙ given.made.constants;
-          signatures = begins.signatures ∙ given.made.signatures;
-          made = definitions_keep_made known.func xs name mid after e given.small given.made.made;
-          names = (definitions_fit known.func xs name mid after known.signature e there given.fit given.made.names).1;
-          lines = definitions_keep_fit known.func xs name mid after e given.made.lines;
-          sums = definitions_keep_sums known.func xs name mid after e given.made.sums;
+          sound = record {
+            made = made;
+            names = (definitions_fit known.func xs name mid after known.signature e there given.fit sound.names).1;
+            lines = definitions_keep_fit known.func xs name mid after e sound.lines;
+            sums = definitions_keep_sums known.func xs name mid after e sound.sums;
+          };
+          wider = scope_grows scope mid after begins made given.over.wider;
         }
 
-    word_keeps : (problem_scope p []).function word ≡ Some profile → IsKeptLayer p after (Term-F.Apply word args) (Term-F.Name own)
+    word_keeps : scope.function word ≡ Some profile → IsKeptLayer scope flat_scope after (Term-F.Apply word args) (Term-F.Name own)
     word_keeps is =
-        let scope = problem_scope p [] in
         let formed = map (forms_of scope) args in
         record {
           forms = λ end l.
@@ -187,25 +185,25 @@ module _ (p : Problem) (item : ℕ) where
         }
 
   -- ---- applications
-  pub application_named : (word : Word) (args : List Part) (flat : Term) (before after : Ground) → IsNameableTerm p (roll-Term (Term-F.Apply word (terms args))) → IsMadeOf p before
-      → applied item word (map (named item) (terms args)) before ≡ Ok (flat, after) → IsNamed p (roll-Term (Term-F.Apply word (terms args))) flat before after
-  application_named word args flat before after able made e =
+  pub application_named : (word : Word) (args : List Part) (flat : Term) (before after : Ground) → IsNameableTerm scope (roll-Term (Term-F.Apply word (terms args))) → IsOver scope before
+      → applied item word (map (named item) (terms args)) before ≡ Ok (flat, after) → IsNamed (by_names scope) (roll-Term (Term-F.Apply word (terms args))) flat before after
+  application_named word args flat before after able over e =
       let z : Term-F Term = Term-F.Apply word (terms args) in
       let makers = map (named item) (terms args) in
-      let follows = applications_follow_profiles (problem_scope p []) word (terms args) able.sorted.sort able.sorted.is in
-      let known = function_is_known p before.names word follows.profile made.signatures follows.known in
+      let follows = applications_follow_profiles scope word (terms args) able.sorted.sort able.sorted.is in
+      let known = function_is_known before.names word follows.profile (over.wider.functions word follows.profile follows.known) in
       let e1 = sym (ap (λ (o : Option ℕ). applied_at item makers o before) known.found ∙ ap (λ (o : Option Signature). signed item makers known.func o before) known.there) ∙ e in
       let s = came (arguments item known.signature.args makers before) (λ xs. λ mid. definition_of known.func xs mid then λ name. λ end. Ok (name_term end.names name, end)) flat after e1 in
-      let zipped = subst (λ (places : List Sort). AllZip (λ arg place. has_form (forms_of (problem_scope p []) arg) place ≡ true) (terms args) places) (sym known.args) follows.each in
+      let zipped = subst (λ (places : List Sort). AllZip (λ arg place. has_form (forms_of scope arg) place ≡ true) (terms args) places) (sym known.args) follows.each in
       let light = subst (λ n. n ≤ largest_offset) (fold-roll-Term ℕ weight_step z) able.light in
-      let given = arguments_named args known.signature.args s.value before s.mid zipped light made s.first in
+      let given = arguments_named args known.signature.args s.value before s.mid zipped light over s.first in
       let t = came (definition_of known.func s.value s.mid) (λ name. λ end. Ok (name_term end.names name, end)) flat after s.rest in
       let g = gave (name_term t.mid.names t.value) flat t.mid after t.rest in
       let own_word = definition_word t.mid.names t.value in
       let keeps = word_keeps word (terms args) follows.profile before s.mid t.mid known s.value t.value given t.first follows.known in
-      named_to p (roll-Term z) (roll-Term (Term-F.Name own_word)) (Name own_word) flat before t.mid after (rolls-Name own_word) g.value g.ground
+      named_to (by_names scope) (roll-Term z) (roll-Term (Term-F.Name own_word)) (Name own_word) flat before t.mid after (rolls-Name own_word) g.value g.ground
       (record {
         grew = grew_through before s.mid t.mid given.grew (definition_grew known.func s.value t.value s.mid t.mid t.first);
-        made = word_made word (terms args) follows.profile before s.mid t.mid known s.value t.value given t.first;
-        kept = kept_layer p t.mid z (Term-F.Name own_word) keeps;
+        over = word_over word (terms args) follows.profile before s.mid t.mid known s.value t.value given t.first;
+        kept = kept_layer scope flat_scope t.mid z (Term-F.Name own_word) keeps;
       })

@@ -74,7 +74,7 @@ module _ (p : Problem) (env other : Environment) (functions : Functions) (agree 
   atom_same : (atom : Atom) → IsSortedIn (problem_scope p []) atom → atom_is_true env functions atom ≡ atom_is_true other functions atom
   atom_same atom sorted =
       let scope = problem_scope p [] in
-      let sides = has_sides scope atom sorted in
+      let sides = has_sides scope (sort_of scope atom) atom sorted in
       let left = term_same atom.left (record { sort = sort_of scope atom; is = sides.left }) in
       let right = term_same atom.right (record { sort = sort_of scope atom; is = sides.right }) in
       λ i. compares atom.cmp (left i) (right i)
@@ -93,11 +93,11 @@ module _ (p : Problem) (env other : Environment) (functions : Functions) (agree 
       let rest = one_true_same atoms (All-tail (IsSortedIn (problem_scope p [])) atom atoms sorted) in
       λ i. first i || rest i
 
-  clause_same : (clause : Clause) → IsReadyClause p clause → clause_at env functions (universal clause) [] ≡ clause_at other functions (universal clause) []
+  clause_same : (clause : Clause) → IsReadyClause (problem_scope p []) clause → clause_at env functions (universal clause) [] ≡ clause_at other functions (universal clause) []
   clause_same clause is =
       let guard = all_same clause.guard is.guard in
       let head = one_true_same clause.head is.head in
-      sym (without_variables p clause env functions is.vars) ∙ (λ i. not (guard i) || head i) ∙ without_variables p clause other functions is.vars
+      sym (without_variables (problem_scope p []) clause env functions is.vars) ∙ (λ i. not (guard i) || head i) ∙ without_variables (problem_scope p []) clause other functions is.vars
 
 pub atoms_need_constants_alone : AtomsNeedConstantsAlone
 atoms_need_constants_alone p env other functions atom agree sorted = atom_same p env other functions agree atom sorted

@@ -7,7 +7,7 @@ use Rattle.hp_tree.specs.declared.problem.Decl.{Decl}
 use Rattle.hp_tree.specs.declared.problem.Decl.TheVariants.{Const, Fun}
 use Rattle.hp_tree.specs.declared.problem.Problem.{Problem}
 use Rattle.hp_tree.specs.Value.{Word}
-use Rattle.hp_terms.specs.Scope.{Profile}
+use Rattle.hp_terms.specs.Scope.{Profile, Widens}
 use Rattle.hp_lit.specs.declared.literal.Name.{Name}
 use Rattle.hp_lit.specs.Words.{number}
 use Rattle.hp_lit.proofs.Words.{numbered}
@@ -23,7 +23,9 @@ use Rattle.hp_sorts.specs.declared.tables.Signature.{Signature as Declared}
 use Rattle.hp_sorts.specs.Numbered.{named}
 use Rattle.hp_sorts.specs.Symbols.{constant_names, constant_sorts, function_names, signatures}
 use Rattle.hp_sorts.specs.Scopes.{problem_scope, profile_of}
-use Rattle.hp_norm.specs.Lines.{constants_of, signatures_from}
+use Rattle.hp_norm.specs.Lines.{constants_of, declared_names, signatures_from}
+use Rattle.hp_norm.specs.Scopes.{term_scope}
+use Rattle.hp_norm.proofs.NamedWords.{IsKnown, known_has_profile, name_there}
 
 -- ---- what the declarations are as names
 words_of : (decls : List Decl) → map constant_name (constants_of decls) ≡ constant_names decls
@@ -79,12 +81,6 @@ stands_with {X} word ws xs x = by (position (bytes_eq word) ws) refl
         let is : number ws word ≡ Some n = ap (option_map (λ (i : ℕ). let m : Name = record { 0 = i } in m)) f in
         record { at = at; found = f; there = (numbered ws word n is).there; thing = e }
 
--- the word at the place of a signature is its name
-name_there : (ss : List Signature) (k : ℕ) (s : Signature) (word : Word) → slice_get ss k ≡ Some s → slice_get (map signature_name ss) k ≡ Some word → s.name ≡ word
-name_there [] k s word e f = absurd (cc)
-name_there (t ∷ ts) zero s word e f = let same : t ≡ s = cc in let is : t.name ≡ word = cc in ap signature_name (sym same) ∙ is
-name_there (t ∷ ts) (suc k) s word e f = name_there ts k s word e f
-
 module _ (p : Problem) where
   -- a constant has its sort among the names
   pub constant_is_named : (names : NameList) (word : Word) (sort : Sort) → names.constants ≡ constants_of p.decls → IsMade names
@@ -98,17 +94,8 @@ module _ (p : Problem) where
       ap (option_and_then (λ (at : ℕ). slice_get (sorts names) at)) (position_of (words names) s.at word (words_are_distinct names made) there) ∙ thing
 
   -- a function stands among the names with its profile
-  pub record IsKnown (names : NameList) (word : Word) (profile : Profile) : Type 0 where
-    pub func : ℕ
-    pub found : position (bytes_eq word) (function_words names) ≡ Some func
-    pub signature : Signature
-    pub there : slice_get names.signatures func ≡ Some signature
-    pub args : signature.args ≡ profile.args
-    pub result : signature.result ≡ profile.result
-    pub name : signature.name ≡ word
-
-  pub function_is_known : (names : NameList) (word : Word) (profile : Profile) → names.signatures ≡ signatures_from 1 p.decls → (problem_scope p []).function word ≡ Some profile → IsKnown names word profile
-  function_is_known names word profile same = by (named word (function_names p.decls) (signatures p.decls)) refl
+  pub function_is_declared : (names : NameList) (word : Word) (profile : Profile) → names.signatures ≡ signatures_from 1 p.decls → (problem_scope p []).function word ≡ Some profile → IsKnown names word profile
+  function_is_declared names word profile same = by (named word (function_names p.decls) (signatures p.decls)) refl
     where
       by : (o : Option Declared) → named word (function_names p.decls) (signatures p.decls) ≡ o → option_map profile_of o ≡ Some profile → IsKnown names word profile
       by None f e = absurd (cc)
@@ -127,6 +114,16 @@ module _ (p : Problem) where
             result = h.result ∙ ap (λ (q : Profile). q.result) is;
             name = name_there names.signatures s.at h.signature word h.there worded;
           }
+
+  -- the declared names say all that the declarations say
+  pub declared_scope : IsMade (declared_names p.decls) → Widens (problem_scope p []) (term_scope (declared_names p.decls))
+  declared_scope made =
+      let names = declared_names p.decls in
+      record {
+        names = λ word sort e. constant_is_named names word sort refl made e;
+        functions = λ word profile e. known_has_profile names word profile (function_is_declared names word profile refl e);
+        pointers = λ number e. e;
+      }
 
   -- a word with a sort is that of a constant
   pub record IsConstant (word : Word) : Type 0 where

@@ -2,10 +2,11 @@
 use Rattle.std.proofs.Common.{◌≡◌, ◌&&◌, Bool, true, false}
 use Rattle.std.specs.Prelude.{if◌then◌else◌}
 use Rattle.std.proofs.lemmas.Bool.{and_from, and_parts, or_left, or_right}
+use Rattle.hp_math.specs.Rational.{ℚ}
 use Rattle.hp_tree.specs.declared.problem.Sort.{Sort}
 use Rattle.hp_tree.specs.declared.problem.Sort.TheVariants.{Num, Idx, Ptr}
 use Rattle.hp_terms.specs.declared.forms.Forms.{Forms}
-use Rattle.hp_terms.specs.Sorting.{difference_forms, has_form, multiple_forms, negation_forms, no_forms, sort_forms, sum_forms}
+use Rattle.hp_terms.specs.Sorting.{difference_forms, has_form, multiple_forms, negation_forms, no_forms, number_forms, sort_forms, sum_forms}
 use Rattle.hp_terms.proofs.Values.{either_both}
 
 -- each sort stays, and so does a whole number
@@ -23,6 +24,15 @@ no_form Ptr e = cc
 
 pub nothing_kept : (g : Forms) → KeepsForms no_forms g
 nothing_kept g = record { sorts = λ s e. absurd (no_form s e); whole = λ e. absurd (cc) }
+
+-- a number that stands for a pointer still does
+pub number_kept : (one other : ℚ → Bool) (q : ℚ) → (one q ≡ true → other q ≡ true) → KeepsForms (number_forms one q) (number_forms other q)
+number_kept one other q more = record { sorts = by; whole = λ e. e }
+  where
+    by : (sort : Sort) → has_form (number_forms one q) sort ≡ true → has_form (number_forms other q) sort ≡ true
+    by Num e = e
+    by Idx e = e
+    by Ptr e = more e
 
 -- an application whose arguments may not fit gives at most its own sort
 pub result_kept : (b : Bool) (sort : Sort) → KeepsForms (if b then sort_forms sort else no_forms) (sort_forms sort)

@@ -1,27 +1,16 @@
 -- What naming does to a ground set: what was there is in front, and lines that are added are true where sums have the values of their forms.
-use Rattle.std.proofs.Common.{◌≡◌, ◌↔◌, ℕ, List, Ok, sym, subst}
-use Rattle.std.specs.List.{All}
+use Rattle.std.proofs.Common.{◌≡◌, ℕ, List, Ok, sym, subst}
 use Rattle.hp_tree.specs.declared.term.Term.{Term}
 use Rattle.hp_tree.specs.declared.problem.Sort.{Sort}
 use Rattle.hp_lit.specs.declared.literal.Name.{Name}
 use Rattle.hp_lit.specs.declared.line.Arg.{Arg}
-use Rattle.hp_lit.specs.declared.line.Line.{Line}
-use Rattle.hp_lit.specs.Truth.{Values, LineIsTrue}
 use Rattle.hp_defs.specs.declared.names.Ground.{Ground}
-use Rattle.hp_base.specs.Making.{Begins}
 use Rattle.hp_base.specs.Defining.{definition_of}
 use Rattle.hp_base.specs.Arguments.{argument_of}
-use Rattle.hp_base.specs.Values.{SumsHold}
+use Rattle.hp_norm.specs.Sound.{AreTrue, Grew}
 use Rattle.hp_base.proofs.Making.{begins_same, begins_trans}
 use Rattle.hp_base.proofs.ArgsDefinitions.{definitions_begin, definitions_keep_lines}
 use Rattle.hp_base.proofs.ArgsMade.{arguments_begin, arguments_keep_truth}
-
-abbrev pub AreTrue : Values → List Line → Type 0
-AreTrue v lines = All (λ line. LineIsTrue v line.lits) lines
-
-pub record Grew (before after : Ground) : Type 0 where
-  pub begins : Begins before after
-  pub truth : (end : Ground) (v : Values) → Begins after end → SumsHold end.names v → AreTrue v before.lines ↔ AreTrue v after.lines
 
 pub grew_same : (g : Ground) → Grew g g
 grew_same g = record { begins = begins_same g; truth = λ end v b hold. (λ all. all, λ all. all) }

@@ -31,11 +31,13 @@ use Rattle.hp_sorts.specs.Laws.{IsWellSorted, IsWellSortedAtom, IsWellSortedClau
 use Rattle.hp_sorts.specs.Scopes.{problem_scope}
 use Rattle.hp_sorts.proofs.Faultless.{faultless_problems_are_well_sorted}
 use Rattle.hp_norm.specs.Lines.{constants_of, declared_ground, declared_names, ended, ground_lines, named_of, signatures_from, start}
-use Rattle.hp_norm.specs.Laws.{ClausesHoldAtOnce, IsFitLine, IsMadeOf, IsNameable, NamingFits, NamingSays}
+use Rattle.hp_norm.specs.Laws.{ClausesHoldAtOnce, IsFitLine, IsNameable, NamingFits, NamingSays}
+use Rattle.hp_norm.specs.Sound.{IsSound}
 use Rattle.hp_norm.specs.Waiting.{are_some, has_variables}
 use Rattle.hp_norm.proofs.AtomsNamed.{IsSortedIn}
-use Rattle.hp_norm.proofs.DeclaredWords.{count_functions}
+use Rattle.hp_norm.proofs.DeclaredWords.{count_functions, declared_scope}
 use Rattle.hp_norm.proofs.LinesNamed.{AreLined, ClauseHolds, IsReadyClause, clauses_lined}
+use Rattle.hp_norm.proofs.NamedWords.{IsOver}
 
 -- ---- the declared names
 no_constant : (word : Word) (decls : List Decl) → is_among word (map declared_word decls) ≡ false → is_among word (map constant_name (constants_of decls)) ≡ false
@@ -75,10 +77,8 @@ module _ (p : Problem) (able : IsNameable p) where
   well_sorted : IsWellSorted p
   well_sorted = faultless_problems_are_well_sorted p able.sorted
 
-  start_made : length (constants_of p.decls) ≤ most_names → IsMadeOf p (declared_ground p.decls)
-  start_made few = record {
-    constants = refl;
-    signatures = refl;
+  start_sound : length (constants_of p.decls) ≤ most_names → IsSound (declared_ground p.decls)
+  start_sound few = record {
     made = record {
       few = omega (arith, few);
       distinct = constants_distinct p.decls well_sorted.distinct;
@@ -94,6 +94,9 @@ module _ (p : Problem) (able : IsNameable p) where
     sums = λ k d lin e. absurd (cc);
   }
 
+  start_over : length (constants_of p.decls) ≤ most_names → IsOver (problem_scope p []) (declared_ground p.decls)
+  start_over few = let sound = start_sound few in record { sound = sound; wider = declared_scope p sound.made }
+
   -- ---- the clauses
   no_variables : (vars : List Var) → are_some vars ≡ false → vars ≡ []
   no_variables [] e = refl
@@ -102,13 +105,13 @@ module _ (p : Problem) (able : IsNameable p) where
   atoms_sorted : (vars : List Var) (atoms : List Atom) → vars ≡ [] → All (IsWellSortedAtom p vars) atoms → All (IsSortedIn (problem_scope p [])) atoms
   atoms_sorted vars atoms none all = subst (λ (vs : List Var). All (IsSortedIn (problem_scope p vs)) atoms) none (λ k d within. (all k d within).sorted)
 
-  clauses_ready : (clauses : List Clause) → list_any has_variables clauses ≡ false → All (IsWellSortedClause p) clauses → All IsLightClause clauses → All (IsReadyClause p) clauses
-  clauses_ready [] waits sorted light = All-nil (IsReadyClause p)
+  clauses_ready : (clauses : List Clause) → list_any has_variables clauses ≡ false → All (IsWellSortedClause p) clauses → All IsLightClause clauses → All (IsReadyClause (problem_scope p [])) clauses
+  clauses_ready [] waits sorted light = All-nil (IsReadyClause (problem_scope p []))
   clauses_ready (clause ∷ clauses) waits sorted light =
       let parts = or_parts (has_variables clause) (list_any has_variables clauses) waits in
       let none = no_variables clause.vars parts.0 in
       let own = All-head (IsWellSortedClause p) clause clauses sorted in
-      All-cons (IsReadyClause p) clause clauses
+      All-cons (IsReadyClause (problem_scope p [])) clause clauses
       (record {
         vars = none;
         guard = atoms_sorted clause.vars clause.guard none own.guard;
@@ -117,7 +120,7 @@ module _ (p : Problem) (able : IsNameable p) where
       })
       (clauses_ready clauses parts.1 (All-tail (IsWellSortedClause p) clause clauses sorted) (All-tail IsLightClause clause clauses light))
 
-  pub ready : All (IsReadyClause p) p.clauses
+  pub ready : All (IsReadyClause (problem_scope p [])) p.clauses
   ready = clauses_ready p.clauses able.ready well_sorted.clauses able.light
 
   -- ---- the ground set
@@ -139,21 +142,24 @@ module _ (p : Problem) (able : IsNameable p) where
       (x.0, (λ i. Ok (x.0, same i)))
   ended_gave (Err l) g e = absurd (cc)
 
-  pub problem_lined : (g : Ground) → named_of p ≡ Ok g → AreLined p (declared_ground p.decls) g p.clauses
+  pub problem_lined : (g : Ground) → named_of p ≡ Ok g → AreLined (problem_scope p []) (declared_ground p.decls) g p.clauses
   problem_lined g e =
       let s = given.came (start p.decls) (λ x. ended (ground_lines (length p.decls) 1 p.clauses x)) g e in
       let begun = started s.value s.first in
       let from = subst (λ (x : Ground). ended (ground_lines (length p.decls) 1 p.clauses x) ≡ Ok g) (sym begun.same) s.rest in
       let lines = ended_gave (ground_lines (length p.decls) 1 p.clauses (declared_ground p.decls)) g from in
-      clauses_lined p (length p.decls) 1 p.clauses lines.0 (declared_ground p.decls) g ready (start_made begun.few) lines.1
+      clauses_lined (problem_scope p []) (length p.decls) 1 p.clauses lines.0 (declared_ground p.decls) g ready (start_over begun.few) lines.1
 
 pub naming_fits : NamingFits
-naming_fits p g able e = (problem_lined p able g e).made
+naming_fits p g able e =
+    let h = problem_lined p able g e in
+    let sound = h.over.sound in
+    record { constants = h.begins.constants; signatures = h.begins.signatures; made = sound.made; names = sound.names; lines = sound.lines; sums = sound.sums }
 
 pub naming_says : NamingSays
 naming_says p g v env functions able e agrees have extends =
     let lined = problem_lined p able g e in
-    let says = lined.says g v env functions (record { begins = begins_same g; made = lined.made.made }) (record { agrees = agrees; extends = extends }) have in
+    let says = lined.says g v env functions (record { begins = begins_same g; made = lined.over.sound.made }) (record { agrees = agrees; extends = extends }) have in
     (λ all. (says.0 all).1, λ all. says.1 (All-nil (λ (line : Line). LineIsTrue v line.lits), all))
 
 -- ---- no variables

@@ -1,47 +1,30 @@
--- A term without applications that stands for another one: it has its forms, its first sort and its value, and weighs no more.
-use Rattle.std.proofs.Common.{◌≡◌, ℕ, ◌≤◌, [], Option, sym, subst, ◌∙◌}
+-- A term that stands for another one: it has its forms, its first sort and its value, and weighs no more.
+use Rattle.std.proofs.Common.{◌≡◌, ℕ, ◌≤◌, Option, sym, subst, ◌∙◌}
 use Rattle.hp_math.specs.Rational.{ℚ}
 use Rattle.hp_tree.specs.declared.term.Term.{Term, fold-roll-Term, roll-Term, map-Term}
 use Rattle.hp_tree.specs.declared.term.Term.TheOpen.{Term-F}
 use Rattle.hp_tree.specs.declared.problem.Sort.{Sort}
-use Rattle.hp_tree.specs.declared.problem.Problem.{Problem}
 use Rattle.hp_tree.specs.Value.{Environment, Functions, value, value_step}
 use Rattle.hp_terms.specs.declared.forms.Forms.{Forms}
 use Rattle.hp_terms.specs.Scope.{Scope}
 use Rattle.hp_terms.specs.Sorting.{first_sort, first_step, forms_of, forms_step}
 use Rattle.hp_terms.specs.Weight.{weight, weight_step}
 use Rattle.hp_lit.specs.Truth.{Values}
-use Rattle.hp_lit.specs.Words.{Agrees}
 use Rattle.hp_defs.specs.declared.names.Ground.{Ground}
-use Rattle.hp_defs.specs.Made.{IsMade}
-use Rattle.hp_defs.specs.Names.{words}
+use Rattle.hp_defs.specs.Names.{NameList}
 use Rattle.hp_base.specs.Making.{Begins}
-use Rattle.hp_base.specs.Lines.{flat_scope}
-use Rattle.hp_base.specs.Values.{Extends}
 use Rattle.hp_base.proofs.Making.{begins_trans}
-use Rattle.hp_sorts.specs.Scopes.{problem_scope}
+use Rattle.hp_norm.specs.Sound.{AreValues, IsLater}
 use Rattle.hp_norm.proofs.FormsKept.{KeepsForms}
-
--- a ground set that begins with another, and whose names can be made
-pub record IsLater (after end : Ground) : Type 0 where
-  pub begins : Begins after end
-  pub made : IsMade end.names
 
 pub later_through : (mid after end : Ground) → Begins mid after → IsLater after end → IsLater mid end
 later_through mid after end b l = record { begins = begins_trans mid after end b l.begins; made = l.made }
 
--- words have the values of their names, and definitions those of their bodies
-pub record AreValues (end : Ground) (v : Values) (env : Environment) (functions : Functions) : Type 0 where
-  pub agrees : Agrees (words end.names) v env
-  pub extends : Extends functions end.names v
-
-module _ (p : Problem) where
-  abbrev pub scope : Scope
-  scope = problem_scope p []
-
+-- over a scope, and over the one of more and more names
+module _ (scope : Scope) (now : NameList → Scope) where
   pub record IsKept (after : Ground) (term flat : Term) : Type 0 where
-    pub forms : (end : Ground) → IsLater after end → KeepsForms (forms_of scope term) (forms_of (flat_scope end.names) flat)
-    pub first : (end : Ground) → IsLater after end → first_sort scope term ≡ first_sort (flat_scope end.names) flat
+    pub forms : (end : Ground) → IsLater after end → KeepsForms (forms_of scope term) (forms_of (now end.names) flat)
+    pub first : (end : Ground) → IsLater after end → first_sort scope term ≡ first_sort (now end.names) flat
     pub light : weight flat ≤ weight term
     pub same : (end : Ground) (v : Values) (env : Environment) (functions : Functions) → IsLater after end → AreValues end v env functions → value env functions flat ≡ value env functions term
 
@@ -67,18 +50,18 @@ module _ (p : Problem) where
   value_at env functions z = value_step env functions (map-Term Term ℚ (value env functions) z)
 
   pub record IsKeptLayer (after : Ground) (z w : Term-F Term) : Type 0 where
-    pub forms : (end : Ground) → IsLater after end → KeepsForms (forms_at scope z) (forms_at (flat_scope end.names) w)
-    pub first : (end : Ground) → IsLater after end → first_at scope z ≡ first_at (flat_scope end.names) w
+    pub forms : (end : Ground) → IsLater after end → KeepsForms (forms_at scope z) (forms_at (now end.names) w)
+    pub first : (end : Ground) → IsLater after end → first_at scope z ≡ first_at (now end.names) w
     pub light : weight_at w ≤ weight_at z
     pub same : (end : Ground) (v : Values) (env : Environment) (functions : Functions) → IsLater after end → AreValues end v env functions → value_at env functions w ≡ value_at env functions z
 
   pub kept_layer : (after : Ground) (z w : Term-F Term) → IsKeptLayer after z w → IsKept after (roll-Term z) (roll-Term w)
   kept_layer after z w h = record {
     forms = λ end l.
-        subst (λ (f : Forms). KeepsForms f (forms_of (flat_scope end.names) (roll-Term w))) (sym (fold-roll-Term Forms (forms_step scope) z))
-        (subst (λ (g : Forms). KeepsForms (forms_at scope z) g) (sym (fold-roll-Term Forms (forms_step (flat_scope end.names)) w)) (h.forms end l));
+        subst (λ (f : Forms). KeepsForms f (forms_of (now end.names) (roll-Term w))) (sym (fold-roll-Term Forms (forms_step scope) z))
+        (subst (λ (g : Forms). KeepsForms (forms_at scope z) g) (sym (fold-roll-Term Forms (forms_step (now end.names)) w)) (h.forms end l));
     first = λ end l.
-        fold-roll-Term (Option Sort) (first_step scope) z ∙ h.first end l ∙ sym (fold-roll-Term (Option Sort) (first_step (flat_scope end.names)) w);
+        fold-roll-Term (Option Sort) (first_step scope) z ∙ h.first end l ∙ sym (fold-roll-Term (Option Sort) (first_step (now end.names)) w);
     light =
         subst (λ n. weight (roll-Term w) ≤ n) (sym (fold-roll-Term ℕ weight_step z))
         (subst (λ n. n ≤ weight_at z) (sym (fold-roll-Term ℕ weight_step w)) h.light);

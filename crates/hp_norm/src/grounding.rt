@@ -5,7 +5,6 @@ ghost use Rattle.std.specs.List.{All};
 ghost use Rattle.hp_tree.specs.Limits.{most_clauses, most_names};
 ghost use Rattle.hp_terms.specs.Weight.{IsLight, IsLightClause};
 ghost use Rattle.hp_terms.specs.Words.{IsPlain, IsPlainWord, declared_word};
-ghost use Rattle.hp_lit.specs.Limited.{many_names};
 ghost use Rattle.hp_names.specs.Names.{AreDistinct};
 ghost use Rattle.hp_sorts.specs.Faults.{sort_fault};
 ghost use Rattle.hp_norm.specs.Answers.{GroundFound};
@@ -15,9 +14,9 @@ ghost use Rattle.hp_norm.specs.Waiting.{is_waiting};
 use crate::clauses::ground_lines;
 use crate::declared::{count_constants, declared_names};
 use hp_defs::Ground;
-use hp_lit::GroundErr;
+use hp_lit::{GroundErr, many_names};
 use hp_num::List;
-use hp_tree::{Limit, MOST_NAMES, Problem, Which};
+use hp_tree::{MOST_NAMES, Problem};
 use std::alloc::Global;
 
 /// The ground problem of a problem without variables: its declared names, a definition for each application and for each
@@ -51,15 +50,4 @@ pub fn name_ground(alloc: Global, p: &Problem) -> Result<Ground, GroundErr>
     };
     ground_lines(alloc, &mut ground, decls.len() as u32, p.clauses.as_slice())?;
     Ok(ground)
-}
-
-/// The limit on names.
-fn many_names() -> Limit
-    ensures { result ≡ many_names }
-{
-    Limit {
-        which: Which::Names,
-        most: MOST_NAMES as u64,
-        item: 0,
-    }
 }

@@ -1,7 +1,7 @@
 //! What the names and lines of a problem say of the values of its terms. None of these laws has a cause to fail: they
 //! speak of all problems, and nothing is computed.
 
-ghost use Rattle.hp_norm.specs.Laws.{AtomsNeedConstantsAlone, ClausesHoldAtOnce, ClausesNeedConstantsAlone, NamingFits, NamingSays};
+ghost use Rattle.hp_norm.specs.Laws.{AtomsAreNamed, AtomsMakeOnly, AtomsNeedConstantsAlone, ClausesHoldAtOnce, ClausesNeedConstantsAlone, DefinitionsAreFound, NamingFits, NamingSays};
 
 /// The ground set of a problem without variables has the declared names, definitions that fit the names before them,
 /// literals that can be decided, and a line for each sum.
@@ -13,6 +13,22 @@ pub fn naming_fits()
 /// sorts, words the values of their names, and definitions those of their bodies.
 pub fn naming_says()
     ensures { NamingSays }
+{}
+
+/// Atoms over the names of a ground set become atoms without applications: they keep their sorts and their truth in each
+/// ground set that grows from there, and the numbers of no side grow.
+pub fn atoms_are_named()
+    ensures { AtomsAreNamed }
+{}
+
+/// While atoms are named, each application that gets a new definition is one of a function that the atoms apply.
+pub fn atoms_make_only()
+    ensures { AtomsMakeOnly }
+{}
+
+/// The definition of a function at arguments is found where it is there, and nothing is added.
+pub fn definitions_are_found()
+    ensures { DefinitionsAreFound }
 {}
 
 /// A sorted atom over the declared words has the same truth in all environments that give the declared constants the same

@@ -13,8 +13,8 @@ mod waiting;
 pub use clauses::ground_lines;
 pub use grounding::name_ground;
 pub use laws::{
-    atoms_need_constants_alone, clauses_hold_at_once, clauses_need_constants_alone, naming_fits,
-    naming_says,
+    atoms_are_named, atoms_make_only, atoms_need_constants_alone, clauses_hold_at_once,
+    clauses_need_constants_alone, definitions_are_found, naming_fits, naming_says,
 };
 pub use naming::named;
 pub use waiting::is_waiting;

@@ -4,17 +4,15 @@
 ghost use Rattle.std.specs.Prelude.{◌≡◌, ◌<◌, ◌≤◌, length, map, Some, IfOk};
 ghost use Rattle.std.specs.List.{All};
 ghost use Rattle.hp_terms.specs.Weight.{largest_offset, weight, weights};
-ghost use Rattle.hp_terms.specs.Words.{made_word};
 ghost use Rattle.hp_defs.specs.Made.{IsSmallArg};
 ghost use Rattle.hp_base.specs.Making.{Begins, Makes};
 ghost use Rattle.hp_norm.specs.Naming.{applied, applied_at, arguments, name_term, named, placed_argument};
 
 use hp_base::{argument, definition};
-use hp_defs::{Ground, Names};
+use hp_defs::{Ground, Names, word_of};
 use hp_lit::{Arg, GroundErr, Name};
 use hp_num::{List, Text};
 use hp_tree::{Sort, Term};
-use itoa::Buffer;
 use sqlite_items::Boxed;
 use std::alloc::{AllocError, Global};
 
@@ -153,15 +151,5 @@ fn name_term(alloc: Global, names: &Names, name: Name) -> Result<Term, AllocErro
 {
     let constants = names.constants().len() as u64;
     let number = (name.0 as u64).saturating_sub(constants) + 1;
-    Ok(Term::Name(made_word(alloc, number)?))
-}
-
-/// The word of the definition with this number, counted from 1: `_` and the number.
-fn made_word(alloc: Global, number: u64) -> Result<Text, AllocError>
-    ensures { IfOk result (λ word. word ≡ made_word number) }
-{
-    let mut word = Text::from_slice(alloc, b"_")?;
-    let mut buffer = Buffer::new();
-    word.extend_from_slice(buffer.format(number).as_bytes())?;
-    Ok(word)
+    Ok(Term::Name(word_of(alloc, number)?))
 }
