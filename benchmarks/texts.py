@@ -135,6 +135,13 @@ def function_chain(count):
     return [f"const {names}: num;", "fun f(num): num level 1;"] + steps + ends
 
 
+def function_choice(count):
+    """The same, where the first two constants are equal in each of two cases."""
+    lines = function_chain(count)
+    first = lines.index("query c1 = c0;")
+    return ["const d: num;"] + lines[:first] + ["query d = c1;", "query c1 = c0 | d = c0;"] + lines[first + 1 :]
+
+
 def main():
     rng = random.Random(7)
     write("clauses.hp", clauses())
@@ -160,8 +167,9 @@ def main():
     write("num-choices.hp", num_choices(random.Random(5), 5))
     for count in (20, 40, 300):
         write(f"applications-{count}.hp", applications(count))
-    for count in (10, 15, 300):
+    for count in (10, 15, 50, 100, 300):
         write(f"function-chain-{count}.hp", function_chain(count))
+    write("function-choice-300.hp", function_choice(300))
     for jobs in (4, 5, 6, 7):
         write(f"machine-{jobs}-fits.hp", one_machine(rng, jobs, 0))
         write(f"machine-{jobs}-late.hp", one_machine(rng, jobs, -1))

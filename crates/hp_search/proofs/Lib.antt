@@ -1,3 +1,4 @@
+pub mod Valuing
 pub mod Waiting
 pub mod Picking
 pub mod Opening

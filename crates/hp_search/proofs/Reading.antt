@@ -91,3 +91,6 @@ module _ (ss : List Sort) (v : Values) (small : AreSmallIdx ss v) where
 
   pub lines_readable : (lines : List Line) → All (λ line. AreFit ss line.lits) lines → All (AreReadable v) lines
   lines_readable lines fit = All-weaker (λ line. AreFit ss line.lits) (AreReadable v) (λ line h. All-weaker (IsFit ss) (IsReadable v) lit_readable line.lits h) lines fit
+
+  pub lits_readable : (lits : List Lit) → All (IsFit ss) lits → All (IsReadable v) lits
+  lits_readable lits fit = All-weaker (IsFit ss) (IsReadable v) lit_readable lits fit

@@ -1,5 +1,5 @@
 -- What values that make the literals of a place true show of the lines.
-use Rattle.std.proofs.Common.{◌≡◌, ℕ, ◌-◌, ◌≤◌, pos, inr, refl, sym, ◌∙◌, subst, arith, List, Some}
+use Rattle.std.proofs.Common.{◌≡◌, ℕ, ◌-◌, ◌≤◌, pos, inr, refl, sym, ◌∙◌, subst, arith, List, Bool, Option, Some, None, Result, Ok, Err, IfOk, IfSome}
 use Rattle.std.specs.Prelude.{slice_get}
 use Rattle.std.specs.List.{All}
 use Rattle.std.proofs.lemmas.Option.{get_or_from_slice_get, slice_get_within}
@@ -24,8 +24,12 @@ use Rattle.hp_lit.specs.Fit.{IsFit}
 use Rattle.hp_path.specs.Decided.{AreOfChain, AreValuesFor}
 use Rattle.hp_search.specs.declared.searching.SearchErr.{SearchErr}
 use Rattle.hp_search.specs.declared.searching.SearchErr.TheVariants as search_err
-use Rattle.hp_search.specs.Lines.{AreFit, IsFalseLine, IsWideChoice, IsWideLit}
-use Rattle.hp_search.specs.Search.{IsCauseAt, IsModelAt, IsStrainedAs, IsStrainedAt, IsStrainedLit}
+use Rattle.hp_search.specs.declared.looking.Seen.{Seen}
+use Rattle.hp_search.specs.declared.looking.Seen.TheVariants.{Model, Split, Leaf}
+use Rattle.hp_search.specs.declared.truth.Verdict.{Verdict}
+use Rattle.hp_search.specs.inner.Leading.{IsSeenBy}
+use Rattle.hp_search.specs.Lines.{AreFit, IsFalseLine, IsWideChoice, IsWideLit, Judges}
+use Rattle.hp_search.specs.Search.{HasChain, IsCauseAt, IsModelAt, Sees, IsStrainedAs, IsStrainedAt, IsStrainedLit}
 use Rattle.hp_search.proofs.Reading.{lits_fit}
 
 pub all_true : (ss : List Sort) (lines : List Line) (place : Place) (v : Valuation) → AreValuesFor ss (place_lits lines place) v.values → All (λ line. LineIsTrue v.values line.lits) lines → IsModelAt ss lines place v
@@ -33,6 +37,23 @@ all_true ss lines place v h all = record { sorted = h.sorted; small = h.small; h
 
 pub line_false : (ss : List Sort) (lines : List Line) (place : Place) (v : Values) (n : ℕ) → AreValuesFor ss (place_lits lines place) v → IsFalseLine lines v n → IsLine lines n × IsOpenAt ss lines place n
 line_false ss lines place v n h f = (f.within, record { values = v; sorted = h.sorted; holds = h.holds; fails = f.fails })
+
+-- what a verdict on these values shows
+pub verdict_seen : (ss : List Sort) (lines : List Line) (place : Place) (v : Valuation) (given : Verdict) (exact : Bool) (seen : Option Seen) → AreValuesFor ss (place_lits lines place) v.values → Judges lines v.values given → IsSeenBy given v exact seen
+    → IfSome seen (Sees ss lines place exact)
+verdict_seen ss lines place v given exact None h j s = tt
+verdict_seen ss lines place v given exact (Some (Split n)) h j s = line_false ss lines place v.values n h (subst (Judges lines v.values) s j)
+verdict_seen ss lines place v given exact (Some (Leaf proof)) h j s = absurd s
+verdict_seen ss lines place v given exact (Some (Model w chain)) h j s =
+    let model = all_true ss lines place v h (subst (Judges lines v.values) s.0 j) in
+    (subst (IsModelAt ss lines place) (sym s.1) model, subst (λ e. HasChain ss lines place w e chain) (sym s.3) s.2)
+
+-- a line that is false can be split
+pub found_open : {E : Type 0} (ss : List Sort) (lines : List Line) (place : Place) (v : Values) (found : Result (Option ℕ) E) → AreValuesFor ss (place_lits lines place) v → IfOk found (λ f. IfSome f (IsFalseLine lines v))
+    → IfOk found (λ f. IfSome f (λ n. IsLine lines n × IsOpenAt ss lines place n))
+found_open ss lines place v (Err e) h f = tt
+found_open ss lines place v (Ok None) h f = tt
+found_open ss lines place v (Ok (Some n)) h f = line_false ss lines place v n h f
 
 -- ---- strains
 pub caused : (lines : List Line) (place : Place) (row : RowStrain) (e : SearchErr) → IsStrainedAs place row e → IsStrainedAt lines place row → IsCauseAt lines place e

@@ -20,7 +20,7 @@ whole_minus : (a b : ℤ) → whole a -ℚ whole b ≡ whole (a -ℤ b)
 unfolding whole
 whole_minus a b = ap (λ x. ratio a 1 +ℚ x) (ratio-neg b 1 (omega arith)) ∙ ratio-+ a (neg_ℤ b) 1 (omega arith) ∙ ap (λ n. ratio n 1) (omega (arith, ints))
 
-whole_le : (a b : ℤ) → a ≤ℤ b → whole a ≤ℚ whole b
+pub whole_le : (a b : ℤ) → a ≤ℤ b → whole a ≤ℚ whole b
 unfolding whole
 whole_le a b h = ratio-≤ a b 1 (omega arith) h
 

@@ -3,10 +3,16 @@
 #![tactic(auto)]
 
 mod ahead;
+mod classes;
+mod following;
+mod gaps;
+mod known;
+mod leading;
 mod literals;
 mod looking;
 mod parts;
 mod places;
+mod plan;
 mod searching;
 mod singles;
 mod spread;

@@ -15,8 +15,10 @@ ghost use Rattle.hp_search.specs.Search.{IsCauseAt, IsCauseWithin, IsModelAt, Is
 ghost use Rattle.hp_search.specs.inner.Singles.{AreSinglesOf};
 
 use crate::ahead::{Ahead, decide_ahead};
+use crate::known::are_contrary;
 use crate::literals::{lits_of, push_lits};
 use crate::parts::part_at;
+use crate::plan::Plan;
 use crate::searching::SearchErr;
 use crate::spread::{mentioned, push_apart};
 use crate::truth::{Verdict, first_false, wide_at};
@@ -81,6 +83,7 @@ fn values_of(
     sorts: &[Sort],
     lines: &[Line],
     lits: &[Lit],
+    plan: &Plan,
 ) -> Result<Option<Valuation>, AllocError>
     requires fit { All (λ line. AreFit sorts.now line.lits) lines.now }
     requires lines { length lines.now ≤ most_lines }
@@ -90,9 +93,12 @@ fn values_of(
     if lits.len() > MOST_ROWS {
         return Ok(None);
     }
+    if are_contrary(alloc, sorts.len(), lits)? {
+        return Ok(None);
+    }
     match decide_quickly(alloc, sorts, lits)? {
         Quick::Leaf(_) | Quick::Unknown(_) => Ok(None),
-        Quick::Values(values) => match first_false(lines, &values, &[])? {
+        Quick::Values(values) => match first_false(lines, &values, &[], plan)? {
             Verdict::AllTrue => Ok(Some(values)),
             Verdict::False(_) | Verdict::Wide { .. } => Ok(None),
         },
@@ -105,6 +111,7 @@ fn guess_model(
     alloc: Global,
     sorts: &[Sort],
     lines: &[Line],
+    plan: &Plan,
 ) -> Result<Option<Valuation>, AllocError>
     requires fit { All (λ line. AreFit sorts.now line.lits) lines.now }
     requires lines { length lines.now ≤ most_lines }
@@ -112,7 +119,7 @@ fn guess_model(
 {
     let last = last_choices(alloc, lines)?;
     let lits = lits_of(alloc, lines, last.as_slice())?;
-    values_of(alloc, sorts, lines, lits.as_slice())
+    values_of(alloc, sorts, lines, lits.as_slice(), plan)
 }
 
 /// Values that make every line true, where those do that keep apart the names that no line of one literal is over and this
@@ -122,6 +129,7 @@ fn guess_spread(
     sorts: &[Sort],
     lines: &[Line],
     singles: &[Choice],
+    plan: &Plan,
 ) -> Result<Option<Valuation>, AllocError>
     requires fit { All (λ line. AreFit sorts.now line.lits) lines.now }
     requires lines { length lines.now ≤ most_lines }
@@ -130,7 +138,7 @@ fn guess_spread(
     let mut lits = lits_of(alloc, lines, singles)?;
     let marks = mentioned(alloc, sorts.len(), lits.as_slice())?;
     push_apart(alloc, sorts, marks.as_slice(), &mut lits)?;
-    values_of(alloc, sorts, lines, lits.as_slice())
+    values_of(alloc, sorts, lines, lits.as_slice(), plan)
 }
 
 /// Values that make every line true, where one of the two guesses finds them.
@@ -139,14 +147,15 @@ pub fn guess(
     sorts: &[Sort],
     lines: &[Line],
     singles: &[Choice],
+    plan: &Plan,
 ) -> Result<Option<Valuation>, AllocError>
     requires fit { All (λ line. AreFit sorts.now line.lits) lines.now }
     requires lines { length lines.now ≤ most_lines }
     ensures { IfOk result (λ guess. IfSome guess (λ v. IsModelAt sorts.now lines.now [] v)) }
 {
-    match guess_model(alloc, sorts, lines)? {
+    match guess_model(alloc, sorts, lines, plan)? {
         Some(values) => Ok(Some(values)),
-        None => guess_spread(alloc, sorts, lines, singles),
+        None => guess_spread(alloc, sorts, lines, singles, plan),
     }
 }
 
@@ -157,6 +166,7 @@ fn look_quickly(
     lines: &[Line],
     singles: &[Choice],
     path: &[Choice],
+    plan: &Plan,
 ) -> Result<QuickLook, AllocError>
     requires fit { All (λ line. AreFit sorts.now line.lits) lines.now }
     requires lines { length lines.now ≤ most_lines }
@@ -168,7 +178,7 @@ fn look_quickly(
         Ahead::Strained(places) => Ok(QuickLook::Strained(places)),
         Ahead::Leaf(proof) => Ok(QuickLook::Seen(Seen::Leaf(proof))),
         Ahead::Values { values, suspects } => {
-            match first_false(lines, &values, suspects.as_slice())? {
+            match first_false(lines, &values, suspects.as_slice(), plan)? {
                 Verdict::AllTrue => Ok(QuickLook::Seen(Seen::Model {
                     values,
                     chain: None,
@@ -199,6 +209,7 @@ fn look_exactly(
     sorts: &[Sort],
     lines: &[Line],
     path: &[Choice],
+    plan: &Plan,
 ) -> Result<Seen, SearchErr>
     requires fit { All (λ line. AreFit sorts.now line.lits) lines.now }
     requires lines { length lines.now ≤ most_lines }
@@ -211,7 +222,7 @@ fn look_exactly(
         Err(DescentErr::Memory) => Err(SearchErr::Memory),
         Err(DescentErr::Strain(row)) => Err(strained(alloc, path, row)),
         Ok(Decision::Leaf(proof)) => Ok(Seen::Leaf(proof)),
-        Ok(Decision::Values { values, chain }) => match first_false(lines, &values, &[])? {
+        Ok(Decision::Values { values, chain }) => match first_false(lines, &values, &[], plan)? {
             Verdict::AllTrue => Ok(Seen::Model {
                 values,
                 chain: Some(chain),
@@ -230,6 +241,7 @@ fn look_wholly(
     sorts: &[Sort],
     lines: &[Line],
     path: &[Choice],
+    plan: &Plan,
     exact: bool,
 ) -> Result<Seen, SearchErr>
     requires fit { All (λ line. AreFit sorts.now line.lits) lines.now }
@@ -239,9 +251,9 @@ fn look_wholly(
     ensures strained { IfErr result (IsCauseAt lines.now path.now) }
 {
     if exact {
-        return look_exactly(alloc, sorts, lines, path);
+        return look_exactly(alloc, sorts, lines, path, plan);
     }
-    match look_exactly(alloc, sorts, lines, path)? {
+    match look_exactly(alloc, sorts, lines, path, plan)? {
         Seen::Model { values, .. } => Ok(Seen::Model {
             values,
             chain: None,
@@ -300,6 +312,7 @@ fn look_within(
     path: &[Choice],
     part: List<Choice>,
     choice: Choice,
+    plan: &Plan,
     exact: bool,
 ) -> Result<Seen, SearchErr>
     requires fit { All (λ line. AreFit sorts.now line.lits) lines.now }
@@ -314,7 +327,7 @@ fn look_within(
             place: Place::Path(part),
             row,
         })),
-        None => look_wholly(alloc, sorts, lines, path, exact),
+        None => look_wholly(alloc, sorts, lines, path, plan, exact),
     }
 }
 
@@ -338,12 +351,13 @@ fn part_beside(
 
 /// Decides the literals of the path, and looks for a line that the values found leave false. Where `exact`, the values of
 /// a model are those of a chain of the path. A strain is one over some choices of the path.
-pub fn look(
+pub fn look_by_engines(
     alloc: Global,
     sorts: &[Sort],
     lines: &[Line],
     singles: &[Choice],
     path: &[Choice],
+    plan: &Plan,
     exact: bool,
 ) -> Result<Seen, SearchErr>
     requires fit { All (λ line. AreFit sorts.now line.lits) lines.now }
@@ -353,23 +367,23 @@ pub fn look(
     ensures seen { IfOk result (Sees sorts.now lines.now path.now exact) }
     ensures strained { IfErr result (IsCauseWithin lines.now path.now) }
 {
-    match look_quickly(alloc, sorts, lines, singles, path)? {
+    match look_quickly(alloc, sorts, lines, singles, path, plan)? {
         QuickLook::Seen(Seen::Split(line)) => Ok(Seen::Split(line)),
         QuickLook::Seen(Seen::Leaf(proof)) => Ok(Seen::Leaf(proof)),
         QuickLook::Seen(Seen::Model { values, chain }) => {
             if exact {
-                look_wholly(alloc, sorts, lines, path, exact)
+                look_wholly(alloc, sorts, lines, path, plan, exact)
             } else {
                 Ok(Seen::Model { values, chain })
             }
         }
         QuickLook::Strained(places) => {
             let part = part_at(alloc, path, places.as_slice())?;
-            look_within(alloc, sorts, lines, path, part, NOWHERE, exact)
+            look_within(alloc, sorts, lines, path, part, NOWHERE, plan, exact)
         }
         QuickLook::Wide(choice) => {
             let part = part_beside(alloc, sorts, lines, path, choice)?;
-            look_within(alloc, sorts, lines, path, part, choice, exact)
+            look_within(alloc, sorts, lines, path, part, choice, plan, exact)
         }
     }
 }

@@ -8,8 +8,10 @@ ghost use Rattle.hp_search.specs.Lines.{AreFit};
 ghost use Rattle.hp_search.specs.Search.{IsAt, IsCause, IsFound, IsNotSpent, Turned};
 ghost use Rattle.hp_search.specs.inner.Singles.{AreSinglesOf};
 
-use crate::looking::{Seen, guess, look};
+use crate::leading::look;
+use crate::looking::{Seen, guess};
 use crate::places::{enter, go_on, leave};
+use crate::plan::{Plan, first_plan};
 use crate::singles::{close_singles, singles_of};
 use hp_descent::{Solution, Strain};
 use hp_leaf::Node;
@@ -69,6 +71,7 @@ fn open_place(
     singles: &[Choice],
     tree: &mut List<Node>,
     path: &mut List<Choice>,
+    plan: &mut Plan,
     exact: bool,
 ) -> Result<Turn, SearchErr>
     requires fit { All (λ line. AreFit sorts.now line.lits) lines.now }
@@ -78,7 +81,7 @@ fn open_place(
     ensures turned { IfOk result (Turned sorts.now lines.now exact tree.old tree.new path.new) }
     ensures cause { IfErr result (IsCause sorts.now lines.now) }
 {
-    match look(alloc, sorts, lines, singles, path.as_slice(), exact)? {
+    match look(alloc, sorts, lines, singles, path.as_slice(), plan, exact)? {
         Seen::Model { values, chain } => Ok(Turn::Model { values, chain }),
         Seen::Split(line) => {
             tree.push(Node::Split { line })?;
@@ -105,6 +108,7 @@ fn search_places(
     sorts: &[Sort],
     lines: &[Line],
     singles: &[Choice],
+    plan: &mut Plan,
     most: u64,
     exact: bool,
 ) -> Result<Found, SearchErr>
@@ -119,7 +123,9 @@ fn search_places(
     let mut tree = List::new(alloc);
     let mut path = List::new(alloc);
     for _done in 0..most {
-        match open_place(alloc, sorts, lines, singles, &mut tree, &mut path, exact)? {
+        match open_place(
+            alloc, sorts, lines, singles, &mut tree, &mut path, plan, exact,
+        )? {
             Turn::Model { values, chain } => {
                 return Ok(Found::Model(Solution {
                     values,
@@ -171,8 +177,9 @@ pub fn search(
     if let Some(tree) = close_singles(alloc, sorts, lines, singles.as_slice())? {
         return Ok(Found::Closed(tree));
     }
-    if !exact {
-        if let Some(values) = guess(alloc, sorts, lines, singles.as_slice())? {
+    let mut plan = first_plan(alloc, sorts.len(), lines)?;
+    if !exact && plan.lines.len() == 0 {
+        if let Some(values) = guess(alloc, sorts, lines, singles.as_slice(), &plan)? {
             return Ok(Found::Model(Solution {
                 values,
                 path: List::new(alloc),
@@ -180,5 +187,13 @@ pub fn search(
             }));
         }
     }
-    search_places(alloc, sorts, lines, singles.as_slice(), most, exact)
+    search_places(
+        alloc,
+        sorts,
+        lines,
+        singles.as_slice(),
+        &mut plan,
+        most,
+        exact,
+    )
 }

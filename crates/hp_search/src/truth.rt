@@ -3,10 +3,11 @@ ghost use Rattle.std.specs.Prelude.{◌≡◌, ◌↔◌, ◌+◌, ◌≤◌, If
 ghost use Rattle.std.specs.List.{All};
 ghost use Rattle.hp_math.specs.Rational.{whole};
 ghost use Rattle.hp_tree.specs.Limits.{most_lines};
-ghost use Rattle.hp_lit.specs.Truth.{IdxIsTrue, LineIsTrue, PtrIsTrue, optional_value};
+ghost use Rattle.hp_lit.specs.Truth.{IdxIsTrue, IsTrueAt, LineIsTrue, PtrIsTrue, optional_value};
 ghost use Rattle.hp_diff.specs.Rows.{IsSmallWhole};
 ghost use Rattle.hp_search.specs.Lines.{AreReadable, HasSmallSides, IsFalseLine, IsReadable, IsSmallIndex, IsWideChoice, Judges, JudgesLine, JudgesLit, Keeps};
 
+use crate::plan::Plan;
 use hp_descent::holds;
 use hp_lit::{Choice, IdxLit, Line, Lit, Name, PtrLit, Valuation};
 use hp_num::{Frac, Wide};
@@ -221,18 +222,27 @@ pub fn wide_at(lines: &[Line], v: &Valuation, choice: Choice) -> Option<Wide>
     }
 }
 
-/// Whether a line has fewer literals than the best so far.
-fn is_shorter(line: &Line, best: Option<Candidate>) -> bool
+/// Whether a line with so many cases has fewer than the best so far.
+fn is_shorter(count: usize, best: Option<Candidate>) -> bool
     ensures { result ≡ false → IsSome best }
 {
     match best {
         None => true,
-        Some(best) => line.lits.len() < best.count,
+        Some(best) => count < best.count,
     }
 }
 
-/// The first of the shortest lines that the values leave false. A sum that is too wide is told only where no line is false.
-fn shortest_false(lines: &[Line], v: &Valuation) -> Result<Verdict, AllocError>
+/// How many cases the line at this index has left: by the counts, and where these don't have it, all of its literals.
+fn cases_of(counts: &[usize], at: usize, line: &Line) -> usize {
+    match counts.get(at) {
+        Some(count) => *count,
+        None => line.lits.len(),
+    }
+}
+
+/// The first of the lines with the fewest cases left that the values leave false. A sum that is too wide is told only where
+/// no line is false.
+fn shortest_false(lines: &[Line], v: &Valuation, counts: &[usize]) -> Result<Verdict, AllocError>
     requires readable { All (AreReadable v.now.values) lines.now }
     requires lines { length lines.now ≤ most_lines }
     ensures { IfOk result (Judges lines.now v.now.values) }
@@ -240,14 +250,15 @@ fn shortest_false(lines: &[Line], v: &Valuation) -> Result<Verdict, AllocError>
     let mut best: Option<Candidate> = None;
     let mut wide_sum: Option<WideSum> = None;
     for (at, line) in lines.iter().enumerate() {
-        if is_shorter(line, best) {
+        let count = cases_of(counts, at, line);
+        if is_shorter(count, best) {
             let number = at as u32 + 1;
             match line_truth(v, line)? {
                 LineTruth::True => {}
                 LineTruth::False => {
                     best = Some(Candidate {
                         line: number,
-                        count: line.lits.len(),
+                        count,
                     });
                 }
                 LineTruth::Wide { lit, wide } => {
@@ -276,18 +287,61 @@ fn verdict_of(best: Option<Candidate>, wide_sum: Option<WideSum>) -> Verdict
     }
 }
 
-/// A line that the values leave false: one of the suspects where there is such, and else one of the shortest. Where no
-/// line is false, a literal whose sum is too wide, or that every line is true. `Err` where the number of such a literal
+/// A line that the values leave false: one of the suspects or of the plan where there is such, and else one of those with
+/// the fewest cases left. Where no line is false, a literal whose sum is too wide, or that every line is true. `Err` where the number of such a literal
 /// in its line has more than 32 bits.
-pub fn first_false(lines: &[Line], v: &Valuation, suspects: &[u32]) -> Result<Verdict, AllocError>
+pub fn first_false(
+    lines: &[Line],
+    v: &Valuation,
+    suspects: &[u32],
+    plan: &Plan,
+) -> Result<Verdict, AllocError>
     requires readable { All (AreReadable v.now.values) lines.now }
     requires lines { length lines.now ≤ most_lines }
     ensures { IfOk result (Judges lines.now v.now.values) }
 {
-    for number in suspects {
+    if let Some(number) = next_false(lines, v, suspects)? {
+        return Ok(Verdict::False(number));
+    }
+    if let Some(number) = next_false(lines, v, plan.lines.as_slice())? {
+        return Ok(Verdict::False(number));
+    }
+    shortest_false(lines, v, plan.counts.as_slice())
+}
+
+/// The first of these lines that the values leave false.
+pub fn next_false(lines: &[Line], v: &Valuation, numbers: &[u32]) -> Result<Option<u32>, AllocError>
+    requires { All (AreReadable v.now.values) lines.now }
+    ensures { IfOk result (λ found. IfSome found (IsFalseLine lines.now v.now.values)) }
+{
+    for number in numbers {
         if is_false(lines, v, *number)? {
-            return Ok(Verdict::False(*number));
+            return Ok(Some(*number));
         }
     }
-    shortest_false(lines, v)
+    Ok(None)
+}
+
+/// Whether the values leave none of the lines of these choices false.
+pub fn are_true(lines: &[Line], v: &Valuation, choices: &[Choice]) -> Result<bool, AllocError>
+    requires { All (AreReadable v.now.values) lines.now }
+{
+    for choice in choices {
+        if is_false(lines, v, choice.line)? {
+            return Ok(false);
+        }
+    }
+    Ok(true)
+}
+
+/// Whether a literal is true, and its sum isn't too wide.
+pub fn is_true(v: &Valuation, lit: &Lit) -> bool
+    requires { IsReadable v.now.values lit.now }
+    ensures { result ≡ true → IsTrueAt v.now.values lit.now }
+{
+    match lit_truth(v, lit) {
+        LitTruth::True => true,
+        LitTruth::False => false,
+        LitTruth::Wide(_) => false,
+    }
 }

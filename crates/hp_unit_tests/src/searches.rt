@@ -10,7 +10,7 @@ use hp_lit::{Choice, Line, Origin, Rel};
 use hp_num::List;
 use hp_path::are_fit;
 use hp_search::{Found, SearchErr, search};
-use hp_tree::Sort;
+use hp_tree::{MOST_LINES, Sort};
 use std::alloc::{AllocError, Global};
 use std::test::Fail;
 
@@ -47,7 +47,7 @@ fn found(
     most: u64,
     exact: bool,
 ) -> Option<Result<Found, SearchErr>> {
-    if most == 0 || lines.len() > 50_000 || !are_lines(&SORTS, lines) {
+    if most == 0 || lines.len() > MOST_LINES || !are_lines(&SORTS, lines) {
         return None;
     }
     Some(search(alloc, &SORTS, lines, most, exact))
@@ -126,8 +126,8 @@ const SEARCHES: [(&[&[Side]], u64, bool, Answer); 15] = [
     (&[&[]], 1, true, Answer::Closed(1)),
     (&[&[THREE], &[]], 1, false, Answer::Closed(1)),
     (&[&[LOW, FIVE]], 9, false, Answer::Model),
-    (&[&[LOW, FIVE], &[THREE]], 5, false, Answer::Closed(5)),
-    (&[&[LOW, FIVE], &[THREE]], 1, false, Answer::Spent(3)),
+    (&[&[LOW, FIVE], &[THREE]], 5, false, Answer::Closed(4)),
+    (&[&[LOW, FIVE], &[THREE]], 1, false, Answer::Spent(2)),
     (&[&[THREE], &[FIVE]], 1, false, Answer::Closed(3)),
     (&[&[BELOW], &[ABOVE]], 10, false, Answer::Closed(3)),
     (&[&[LOW, BELOW], &[FIVE]], 10, true, Answer::Model),
