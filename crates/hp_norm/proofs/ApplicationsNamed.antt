@@ -7,14 +7,16 @@ use Rattle.hp_tree.specs.declared.term.Term.{Term, Name, fold-roll-Term, roll-Te
 use Rattle.hp_tree.specs.declared.term.Term.TheOpen.{Term-F}
 use Rattle.hp_tree.specs.declared.term.Term.TheVariants.{rolls-Name}
 use Rattle.hp_tree.specs.declared.problem.Sort.{Sort}
+use Rattle.hp_tree.specs.declared.problem.Sort.TheVariants.{Num, Idx, Ptr}
 use Rattle.hp_tree.specs.Value.{Word, Environment, Functions, value}
 use Rattle.hp_terms.specs.Scope.{Profile, Scope}
 use Rattle.hp_terms.specs.Sorting.{application_forms, fit, forms_of, has_form, name_forms}
-use Rattle.hp_terms.specs.Weight.{largest_offset, weight, weight_step, weights}
+use Rattle.hp_terms.specs.Weight.{largest_offset}
 use Rattle.hp_terms.proofs.Parts.{applications_follow_profiles}
 use Rattle.hp_index.proofs.Layers.{Parts}
 use Rattle.hp_lit.specs.declared.literal.Name as literal
 use Rattle.hp_lit.specs.declared.line.Arg.{Arg}
+use Rattle.hp_lit.specs.declared.line.Arg.TheVariants as arg
 use Rattle.hp_lit.specs.declared.line.Body.TheVariants.{Apply}
 use Rattle.hp_lit.specs.Truth.{Values}
 use Rattle.hp_defs.specs.declared.names.Constant.{Constant}
@@ -37,13 +39,27 @@ use Rattle.hp_base.proofs.ArgsDefinitions.{definitions_begin, definitions_fit, d
 use Rattle.hp_base.proofs.ArgsMade.{arguments_are_small, arguments_begin, arguments_fit, arguments_keep_fit, arguments_keep_made, arguments_keep_sums, arguments_say, arguments_stay_fit}
 use Rattle.hp_base.proofs.ArgsScopes.{defined_names_have_words, defined_words_have_sorts}
 use Rattle.hp_base.proofs.SumsHold.{sums_hold_by_bodies}
+use Rattle.hp_norm.specs.Loads.{HasLightIndexes, Load, argument_sorts, arguments_load, load, load_step, places_of}
 use Rattle.hp_norm.specs.Naming.{applied, applied_at, arguments, name_term, named, placed, placed_argument, signed}
 use Rattle.hp_norm.specs.Sound.{AreValues, Grew, IsLater}
 use Rattle.hp_norm.proofs.FormsKept.{KeepsForms, result_kept}
 use Rattle.hp_norm.proofs.GroundsGrew.{argument_grew, definition_grew, grew_same, grew_through}
+use Rattle.hp_norm.proofs.Loads.{placed_load}
 use Rattle.hp_norm.proofs.NamedWords.{IsKnown, IsOver, function_is_known, scope_grows}
 use Rattle.hp_norm.proofs.TermsKept.{IsKeptLayer, kept_layer, later_through}
 use Rattle.hp_norm.proofs.TermsNamed.{by_names, IsNameableTerm, IsNamed, IsNamedAlways, named_to}
+
+-- an argument of a sort is small where it is no index
+small_of : (sorts : List Sort) (place : Sort) (x : Arg) → ArgFits sorts place x → (place ≡ Idx → IsSmallArg x) → IsSmallArg x
+small_of sorts Num (arg.Number q) h small = tt
+small_of sorts Num (arg.Named name) h small = tt
+small_of sorts Num (arg.Index base offset) h small = absurd h
+small_of sorts Num arg.Null h small = absurd h
+small_of sorts Idx x h small = small refl
+small_of sorts Ptr (arg.Number q) h small = absurd h
+small_of sorts Ptr (arg.Named name) h small = tt
+small_of sorts Ptr (arg.Index base offset) h small = absurd h
+small_of sorts Ptr arg.Null h small = tt
 
 module _ (scope : Scope) (item : ℕ) where
   abbrev Part : Type 0
@@ -61,9 +77,10 @@ module _ (scope : Scope) (item : ℕ) where
     small : IsSmallArg x
     same : (end : Ground) (v : Values) (env : Environment) (functions : Functions) → IsLater after end → AreValues end v env functions → arg_value v x ≡ value env functions term
 
-  argument_named : (term : Term) (place : Sort) (x : Arg) (before after : Ground) → IsNamedAlways scope item term → has_form (forms_of scope term) place ≡ true → weight term ≤ largest_offset
+  argument_named : (term : Term) (place : Sort) (x : Arg) (before after : Ground) → IsNamedAlways scope item term → has_form (forms_of scope term) place ≡ true
+      → HasLightIndexes scope term → (place ≡ Idx → (load scope term).own ≤ largest_offset)
       → IsOver scope before → placed_argument item (record { named = named item term; sort = place }) before ≡ Ok (x, after) → IsArgument term place before after x
-  argument_named term place x before after always formed light over e =
+  argument_named term place x before after always formed light own over e =
       let s = came (named item term before) (λ t. argument_of item place t) x after e in
       let h = always s.value before s.mid (record { sorted = record { sort = place; is = formed }; light = light }) over s.first in
       let sound = h.over.sound in
@@ -79,7 +96,7 @@ module _ (scope : Scope) (item : ℕ) where
           wider = scope_grows scope s.mid after begins made h.over.wider;
         };
         fits = fits.0;
-        small = arguments_are_small item place s.value x s.mid after s.rest (omega (arith, less, light));
+        small = small_of (sorts after.names) place x fits.0 (λ is. let few = own is in arguments_are_small item place s.value x s.mid after s.rest (omega (arith, less, few)));
         same = λ end v env functions l values.
             arguments_say item place s.value x s.mid after end v env functions s.rest l.begins values.agrees (sums_hold_by_bodies functions end.names v values.extends) keeps
             ∙ h.kept.same end v env functions (later_through s.mid after end begins l) values;
@@ -96,7 +113,7 @@ module _ (scope : Scope) (item : ℕ) where
   arguments_to args places before mid after xs ys e f h = subst (λ (zs : List Arg). AreArguments args places before after zs) e (subst (λ (g : Ground). AreArguments args places before g xs) f h)
 
   arguments_named : (args : List Part) (places : List Sort) (xs : List Arg) (before after : Ground)
-      → AllZip (λ arg place. has_form (forms_of scope arg) place ≡ true) (terms args) places → weights (map weight (terms args)) ≤ largest_offset
+      → AllZip (λ arg place. has_form (forms_of scope arg) place ≡ true) (terms args) places → arguments_load places (map (load scope) (terms args)) ≤ largest_offset
       → IsOver scope before → arguments item places (map (named item) (terms args)) before ≡ Ok (xs, after) → AreArguments (terms args) places before after xs
   arguments_named [] [] xs before after h light over e =
       let g = gave [] xs before after e in
@@ -107,7 +124,8 @@ module _ (scope : Scope) (item : ℕ) where
   arguments_named (arg ∷ args) (place ∷ places) xs before after h light over e =
       let more = placed (map (named item) (terms args)) places in
       let s = came (placed_argument item (record { named = named item arg.0; sort = place }) before) (λ y. λ mid. each (placed_argument item) more mid then λ ys. λ end. Ok (y ∷ ys, end)) xs after e in
-      let one = argument_named arg.0 place s.value before s.mid arg.1 h.0 (omega (arith, light)) over s.first in
+      let own = placed_load place (load scope arg.0) (omega (arith, light)) in
+      let one = argument_named arg.0 place s.value before s.mid arg.1 h.0 own.inner own.own over s.first in
       let t = came (each (placed_argument item) more s.mid) (λ ys. λ end. Ok (s.value ∷ ys, end)) xs after s.rest in
       let rest = arguments_named args places t.value s.mid t.mid h.1 (omega (arith, light)) one.over t.first in
       let g = gave (s.value ∷ t.value) xs t.mid after t.rest in
@@ -172,7 +190,7 @@ module _ (scope : Scope) (item : ℕ) where
           wider = scope_grows scope mid after begins made given.over.wider;
         }
 
-    word_keeps : scope.function word ≡ Some profile → IsKeptLayer scope flat_scope after (Term-F.Apply word args) (Term-F.Name own)
+    word_keeps : scope.function word ≡ Some profile → IsKeptLayer (by_names scope) after (Term-F.Apply word args) (Term-F.Name own)
     word_keeps is =
         let formed = map (forms_of scope) args in
         record {
@@ -195,7 +213,9 @@ module _ (scope : Scope) (item : ℕ) where
       let e1 = sym (ap (λ (o : Option ℕ). applied_at item makers o before) known.found ∙ ap (λ (o : Option Signature). signed item makers known.func o before) known.there) ∙ e in
       let s = came (arguments item known.signature.args makers before) (λ xs. λ mid. definition_of known.func xs mid then λ name. λ end. Ok (name_term end.names name, end)) flat after e1 in
       let zipped = subst (λ (places : List Sort). AllZip (λ arg place. has_form (forms_of scope arg) place ≡ true) (terms args) places) (sym known.args) follows.each in
-      let light = subst (λ n. n ≤ largest_offset) (fold-roll-Term ℕ weight_step z) able.light in
+      let loads = map (load scope) (terms args) in
+      let indexes = ap (λ (l : Load). l.indexes) (fold-roll-Term Load (load_step (places_of scope)) z) ∙ ap (λ (o : Option Profile). arguments_load (argument_sorts o) loads) follows.known ∙ ap (λ (places : List Sort). arguments_load places loads) (sym known.args) in
+      let light = subst (λ n. n ≤ largest_offset) indexes able.light in
       let given = arguments_named args known.signature.args s.value before s.mid zipped light over s.first in
       let t = came (definition_of known.func s.value s.mid) (λ name. λ end. Ok (name_term end.names name, end)) flat after s.rest in
       let g = gave (name_term t.mid.names t.value) flat t.mid after t.rest in
@@ -205,5 +225,5 @@ module _ (scope : Scope) (item : ℕ) where
       (record {
         grew = grew_through before s.mid t.mid given.grew (definition_grew known.func s.value t.value s.mid t.mid t.first);
         over = word_over word (terms args) follows.profile before s.mid t.mid known s.value t.value given t.first;
-        kept = kept_layer scope flat_scope t.mid z (Term-F.Name own_word) keeps;
+        kept = kept_layer (by_names scope) t.mid z (Term-F.Name own_word) keeps;
       })

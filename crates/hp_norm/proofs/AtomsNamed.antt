@@ -1,5 +1,5 @@
 -- Atoms whose sides are of one sort keep it, and keep their truth, while their terms are named or opened.
-use Rattle.std.proofs.Common.{◌≡◌, ◌&&◌, ◌||◌, true, List, [], ◌∷◌, Ok, refl, sym, ap, subst, ◌∙◌, arith}
+use Rattle.std.proofs.Common.{◌≡◌, ◌&&◌, ◌||◌, true, List, [], ◌∷◌, Ok, refl, sym, ap, subst, ◌∙◌}
 use Rattle.std.specs.Prelude.{unwrap_or}
 use Rattle.std.specs.List.{All, AllZip}
 use Rattle.std.specs.Option.{option_or}
@@ -12,20 +12,20 @@ use Rattle.hp_tree.specs.declared.problem.Atom.{Atom}
 use Rattle.hp_tree.specs.Value.{Environment, Functions, all_true, atom_is_true, compares, one_true}
 use Rattle.hp_terms.specs.Scope.{Scope}
 use Rattle.hp_terms.specs.Sorting.{atom_is_sorted, forms_of, has_form, is_sorted, relates, sort_of}
-use Rattle.hp_terms.specs.Weight.{IsLightAtom}
 use Rattle.hp_lit.specs.Truth.{Values}
 use Rattle.hp_defs.specs.declared.names.Ground.{Ground}
 use Rattle.hp_base.specs.Making.{Maker, ◌then◌, each, keep}
 use Rattle.hp_base.proofs.Growing.{came}
 use Rattle.hp_base.proofs.ArgsSteps.{gave}
+use Rattle.hp_norm.specs.Loads.{IsLightWithin, WeighsAtMost}
 use Rattle.hp_norm.specs.Naming.{named}
 use Rattle.hp_norm.specs.Scopes.{term_scope}
 use Rattle.hp_norm.specs.Sound.{AreValues, Grew, IsLater}
 use Rattle.hp_norm.specs.Laws.{AtomsAreNamed, HasOneSort}
 use Rattle.hp_norm.proofs.GroundsGrew.{grew_same, grew_through}
 use Rattle.hp_norm.proofs.NamedWords.{same_scope}
-use Rattle.hp_norm.proofs.TermsKept.{IsKept, kept_longer, later_through}
-use Rattle.hp_norm.proofs.TermsNamed.{Reading, by_names, IsMadeAlways, IsNameableTerm}
+use Rattle.hp_norm.proofs.TermsKept.{IsKept, Reading, kept_longer, later_through}
+use Rattle.hp_norm.proofs.TermsNamed.{by_names, IsMadeAlways, IsNameableTerm}
 use Rattle.hp_norm.proofs.TermsAlways.{terms_are_named}
 
 abbrev pub IsSortedIn : Scope → Atom → Type 0
@@ -91,12 +91,12 @@ module _ (r : Reading) where
   pub record IsNamedAtom (before after : Ground) (atom flat : Atom) : Type 0 where
     pub grew : Grew before after
     pub over : r.holds after
-    pub light : IsLightAtom flat
+    pub light : WeighsAtMost r.most atom flat
     pub sorted : (end : Ground) → IsLater after end → KeepsSorts r.own (r.now end.names) atom flat
     pub first : (end : Ground) → IsLater after end → KeepsFirst r.own (r.now end.names) atom flat
     pub same : (end : Ground) (v : Values) (env : Environment) (functions : Functions) → IsLater after end → AreValues end v env functions → KeepsTruth env functions atom flat
 
-  module _ (after : Ground) (atom flat : Atom) (cmp : atom.cmp ≡ flat.cmp) (left : IsKept r.own r.now after atom.left flat.left) (right : IsKept r.own r.now after atom.right flat.right) where
+  module _ (after : Ground) (atom flat : Atom) (cmp : atom.cmp ≡ flat.cmp) (left : IsKept r after atom.left flat.left) (right : IsKept r after atom.right flat.right) where
     atom_keeps_first : (end : Ground) → IsLater after end → KeepsFirst r.own (r.now end.names) atom flat
     atom_keeps_first end l = λ i. unwrap_or (option_or (left.first end l i) (right.first end l i)) Num
 
@@ -114,18 +114,18 @@ module _ (r : Reading) where
   atom_to : (atom flat now : Atom) (before mid after : Ground) → flat ≡ now → mid ≡ after → IsNamedAtom before mid atom flat → IsNamedAtom before after atom now
   atom_to atom flat now before mid after e f h = subst (λ (a : Atom). IsNamedAtom before after atom a) e (subst (λ (g : Ground). IsNamedAtom before g atom flat) f h)
 
-  pub atom_named : (f : Term → Maker Term) (atom flat : Atom) (before after : Ground) → ((term : Term) → IsMadeAlways r (f term) term) → HasOneSort r.own atom → IsLightAtom atom → r.holds before
+  pub atom_named : (f : Term → Maker Term) (atom flat : Atom) (before after : Ground) → ((term : Term) → IsMadeAlways r (f term) term) → HasOneSort r.own atom → IsLightWithin r.own atom → r.holds before
       → made_atom f atom before ≡ Ok (flat, after) → IsNamedAtom before after atom flat
   atom_named f atom flat before after always sorted light over e =
       let sides = has_sides r.own sorted.0 atom sorted.1 in
-      let able_left : IsNameableTerm r.own atom.left = record { sorted = record { sort = sorted.0; is = sides.left }; light = omega (arith, light) } in
-      let able_right : IsNameableTerm r.own atom.right = record { sorted = record { sort = sorted.0; is = sides.right }; light = omega (arith, light) } in
+      let able_left : IsNameableTerm r.own atom.left = record { sorted = record { sort = sorted.0; is = sides.left }; light = light.left } in
+      let able_right : IsNameableTerm r.own atom.right = record { sorted = record { sort = sorted.0; is = sides.right }; light = light.right } in
       let s = came (f atom.left before) (λ left. λ mid. f atom.right mid then λ right. keep (record { left = left; cmp = atom.cmp; right = right })) flat after e in
       let h = always atom.left s.value before s.mid able_left over s.first in
       let t = came (f atom.right s.mid) (λ right. keep (record { left = s.value; cmp = atom.cmp; right = right })) flat after s.rest in
       let k = always atom.right t.value s.mid t.mid able_right h.over t.first in
       let own : Atom = record { left = s.value; cmp = atom.cmp; right = t.value } in
-      let left = kept_longer r.own r.now s.mid t.mid atom.left s.value k.grew.begins h.kept in
+      let left = kept_longer r s.mid t.mid atom.left s.value k.grew.begins h.kept in
       let g = gave own flat t.mid after t.rest in
       let less = h.kept.light in
       let fewer = k.kept.light in
@@ -133,7 +133,7 @@ module _ (r : Reading) where
       (record {
         grew = grew_through before s.mid t.mid h.grew k.grew;
         over = k.over;
-        light = omega (arith, light, less, fewer);
+        light = record { left = less; right = fewer };
         sorted = atom_keeps_sorts t.mid atom own refl left k.kept;
         first = atom_keeps_first t.mid atom own refl left k.kept;
         same = atom_keeps_truth t.mid atom own refl left k.kept;
@@ -143,7 +143,7 @@ module _ (r : Reading) where
   pub record AreNamedOver (before after : Ground) (atoms flats : List Atom) : Type 0 where
     pub grew : Grew before after
     pub over : r.holds after
-    pub light : All IsLightAtom flats
+    pub light : AllZip (WeighsAtMost r.most) atoms flats
     pub sorted : (end : Ground) → IsLater after end → AllZip (KeepsSorts r.own (r.now end.names)) atoms flats
     pub first : (end : Ground) → IsLater after end → AllZip (KeepsFirst r.own (r.now end.names)) atoms flats
     pub same : (end : Ground) (v : Values) (env : Environment) (functions : Functions) → IsLater after end → AreValues end v env functions → AllZip (KeepsTruth env functions) atoms flats
@@ -151,7 +151,7 @@ module _ (r : Reading) where
   atoms_to : (atoms flats now : List Atom) (before mid after : Ground) → flats ≡ now → mid ≡ after → AreNamedOver before mid atoms flats → AreNamedOver before after atoms now
   atoms_to atoms flats now before mid after e f h = subst (λ (fs : List Atom). AreNamedOver before after atoms fs) e (subst (λ (g : Ground). AreNamedOver before g atoms flats) f h)
 
-  pub atoms_named : (f : Term → Maker Term) (atoms flats : List Atom) (before after : Ground) → ((term : Term) → IsMadeAlways r (f term) term) → All (HasOneSort r.own) atoms → All IsLightAtom atoms
+  pub atoms_named : (f : Term → Maker Term) (atoms flats : List Atom) (before after : Ground) → ((term : Term) → IsMadeAlways r (f term) term) → All (HasOneSort r.own) atoms → All (IsLightWithin r.own) atoms
       → r.holds before → each (made_atom f) atoms before ≡ Ok (flats, after) → AreNamedOver before after atoms flats
   atoms_named f [] flats before after always sorted light over e =
       let g = gave [] flats before after e in
@@ -159,23 +159,23 @@ module _ (r : Reading) where
       (record {
         grew = grew_same before;
         over = over;
-        light = All-nil IsLightAtom;
+        light = tt;
         sorted = λ end l. tt;
         first = λ end l. tt;
         same = λ end v env functions l values. tt;
       })
   atoms_named f (atom ∷ atoms) flats before after always sorted light over e =
       let s = came (made_atom f atom before) (λ y. λ mid. each (made_atom f) atoms mid then λ ys. λ end. Ok (y ∷ ys, end)) flats after e in
-      let one = atom_named f atom s.value before s.mid always (All-head (HasOneSort r.own) atom atoms sorted) (All-head IsLightAtom atom atoms light) over s.first in
+      let one = atom_named f atom s.value before s.mid always (All-head (HasOneSort r.own) atom atoms sorted) (All-head (IsLightWithin r.own) atom atoms light) over s.first in
       let t = came (each (made_atom f) atoms s.mid) (λ ys. λ end. Ok (s.value ∷ ys, end)) flats after s.rest in
-      let rest = atoms_named f atoms t.value s.mid t.mid always (All-tail (HasOneSort r.own) atom atoms sorted) (All-tail IsLightAtom atom atoms light) one.over t.first in
+      let rest = atoms_named f atoms t.value s.mid t.mid always (All-tail (HasOneSort r.own) atom atoms sorted) (All-tail (IsLightWithin r.own) atom atoms light) one.over t.first in
       let g = gave (s.value ∷ t.value) flats t.mid after t.rest in
       let later = λ (end : Ground) (l : IsLater t.mid end). later_through s.mid t.mid end rest.grew.begins l in
       atoms_to (atom ∷ atoms) (s.value ∷ t.value) flats before t.mid after g.value g.ground
       (record {
         grew = grew_through before s.mid t.mid one.grew rest.grew;
         over = rest.over;
-        light = All-cons IsLightAtom s.value t.value one.light rest.light;
+        light = (one.light, rest.light);
         sorted = λ end l. (one.sorted end (later end l), rest.sorted end l);
         first = λ end l. (one.first end (later end l), rest.first end l);
         same = λ end v env functions l values. (one.same end v env functions (later end l) values, rest.same end v env functions l values);

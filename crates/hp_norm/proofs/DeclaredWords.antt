@@ -28,7 +28,7 @@ use Rattle.hp_norm.specs.Scopes.{term_scope}
 use Rattle.hp_norm.proofs.NamedWords.{IsKnown, known_has_profile, name_there}
 
 -- ---- what the declarations are as names
-words_of : (decls : List Decl) → map constant_name (constants_of decls) ≡ constant_names decls
+pub words_of : (decls : List Decl) → map constant_name (constants_of decls) ≡ constant_names decls
 words_of [] = refl
 words_of (Const name sort ∷ decls) = ap (λ ws. name ∷ ws) (words_of decls)
 words_of (Fun name args result level ∷ decls) = words_of decls

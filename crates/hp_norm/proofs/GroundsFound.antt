@@ -17,7 +17,7 @@ use Rattle.hp_base.proofs.Making.{makes_stopped}
 use Rattle.hp_norm.specs.Answers.{GroundFound}
 use Rattle.hp_norm.specs.Lines.{constants_of, declared_ground, ended, ground_lines, named_of}
 
-not_lesser : (m n : ℕ) → n ≤ m → nat_lt m n ≡ false
+pub not_lesser : (m n : ℕ) → n ≤ m → nat_lt m n ≡ false
 not_lesser m n h = grind (arith, h)
 
 -- names that may be so many, and what the lines of the clauses add to them

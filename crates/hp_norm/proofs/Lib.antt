@@ -1,3 +1,12 @@
+mod Seeing
+mod Applications
+mod SameTrees
+mod TermKeys
+mod TermsFound
+mod FlatSteps
+mod TestSteps
+mod ClauseTests
+mod Weighing
 mod Placed
 mod Applied
 mod LiteralSteps
@@ -10,6 +19,7 @@ pub mod DeclaredWords
 pub mod FormsKept
 pub mod GroundsGrew
 pub mod TermsKept
+pub mod Loads
 pub mod TermsNamed
 pub mod ApplicationsNamed
 pub mod TermsAlways
@@ -20,3 +30,10 @@ pub mod LiteralsTrue
 pub mod LinesNamed
 pub mod ProblemsNamed
 pub mod ConstantsAlone
+pub mod ClauseScopes
+pub mod Mentioned
+pub mod OpenedKept
+pub mod OpenedAlways
+pub mod FlatNamed
+pub mod ProblemsFlat
+mod FlatAlone

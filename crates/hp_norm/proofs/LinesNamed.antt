@@ -30,6 +30,7 @@ use Rattle.hp_norm.specs.Laws.{HasOneSort, IsFitLine}
 use Rattle.hp_norm.specs.Sound.{AreTrue, AreValues, IsLater}
 use Rattle.hp_norm.proofs.AtomsNamed.{IsSortedIn, all_stay_true, atoms_named, atoms_stay_sorted, one_stays_true}
 use Rattle.hp_norm.proofs.GroundsGrew.{grew_through}
+use Rattle.hp_norm.proofs.Loads.{flats_are_light, light_within}
 use Rattle.hp_norm.proofs.LiteralsTrue.{clause_fits, clause_says}
 use Rattle.hp_norm.proofs.NamedWords.{IsOver}
 use Rattle.hp_norm.proofs.TermsKept.{later_through}
@@ -81,13 +82,13 @@ module _ (scope : Scope) where
   without_variables clause env functions none =
       ap (λ (vars : List Var). not (all_true (assign vars [] env) functions clause.guard) || one_true (assign vars [] env) functions clause.head) (sym none)
 
-  clause_lined : (item number : ℕ) (clause : Clause) (done : Unit {0}) (before after : Ground) → IsReadyClause scope clause → IsOver scope before
+  pub clause_lined : (item number : ℕ) (clause : Clause) (done : Unit {0}) (before after : Ground) → IsReadyClause scope clause → IsOver scope before
       → ground_line item number clause before ≡ Ok (done, after) → AreLined before after (clause ∷ [])
   clause_lined item number clause done before after ready over e =
       let s = came (named_atoms item clause.guard before) (λ guard. λ mid. named_atoms item clause.head mid then λ head. flat_line item number guard head) done after e in
-      let guards = atoms_named (by_names scope) (named item) clause.guard s.value before s.mid (terms_are_named scope item) (have_sorts clause.guard ready.guard) ready.light.guard over s.first in
+      let guards = atoms_named (by_names scope) (named item) clause.guard s.value before s.mid (terms_are_named scope item) (have_sorts clause.guard ready.guard) (light_within scope clause.guard ready.light.guard) over s.first in
       let t = came (named_atoms item clause.head s.mid) (λ head. flat_line item number s.value head) done after s.rest in
-      let heads = atoms_named (by_names scope) (named item) clause.head t.value s.mid t.mid (terms_are_named scope item) (have_sorts clause.head ready.head) ready.light.head guards.over t.first in
+      let heads = atoms_named (by_names scope) (named item) clause.head t.value s.mid t.mid (terms_are_named scope item) (have_sorts clause.head ready.head) (light_within scope clause.head ready.light.head) guards.over t.first in
       let u = came (computed item (flat_literals t.mid.names s.value t.value) t.mid) (λ lits. add_line (from_clause number lits)) done after t.rest in
       let c = computed_gave item (flat_literals t.mid.names s.value t.value) u.value t.mid u.mid u.first in
       let line = from_clause number u.value in
@@ -96,7 +97,9 @@ module _ (scope : Scope) where
       let scope_now = flat_scope t.mid.names in
       let sorted = atoms_stay_sorted scope scope_now clause.guard s.value (guards.sorted t.mid early) (guards.first t.mid early) ready.guard in
       let also = atoms_stay_sorted scope scope_now clause.head t.value (heads.sorted t.mid now) (heads.first t.mid now) ready.head in
-      let fit = clause_fits t.mid.names s.value t.value u.value sorted also guards.light heads.light c.value in
+      let light = flats_are_light scope clause.guard s.value ready.light.guard guards.light in
+      let lighter = flats_are_light scope clause.head t.value ready.light.head heads.light in
+      let fit = clause_fits t.mid.names s.value t.value u.value sorted also light lighter c.value in
       let grew = grew_through before s.mid t.mid guards.grew heads.grew in
       lined_to before (with_line t.mid line) after (clause ∷ []) (ap (λ (g : Ground). with_line g line) c.ground ∙ line_added line done u.mid after u.rest)
       (record {

@@ -13,7 +13,7 @@ use Rattle.hp_defs.specs.Names.{NameList}
 use Rattle.hp_norm.specs.Answers.{Added}
 use Rattle.hp_norm.specs.Lines.{atom_literals, atoms_literals, flat_literals}
 
-drop_end : {X : Type 0} (xs : List X) (i : ℕ) → length xs ≤ i → drop i xs ≡ []
+pub drop_end : {X : Type 0} (xs : List X) (i : ℕ) → length xs ≤ i → drop i xs ≡ []
 drop_end [] zero h = refl
 drop_end [] (suc i) h = refl
 drop_end (x ∷ xs) zero h = absurd (omega arith)

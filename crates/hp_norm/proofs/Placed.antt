@@ -1,7 +1,9 @@
 -- The terms of an application at the places of its function, one after the other, how light each is and how deep.
 use Rattle.std.proofs.Common.{◌≡◌, ℕ, zero, suc, ◌<◌, ◌≤◌, List, [], ◌∷◌, map, length, drop, get_or, refl, sym, ap, subst, ◌⊎◌, inl, inr, arith}
 use denote.Param.Weighed.{at_most, most}
-use Rattle.hp_tree.specs.declared.term.Term.{Term}
+use Rattle.hp_tree.specs.declared.term.Term.{Term, Sub, roll-Term}
+use Rattle.hp_tree.specs.declared.term.Term.TheBlock as block
+use Rattle.hp_tree.specs.declared.term.Term.TheBlock.{the_depth}
 use Rattle.hp_tree.specs.declared.problem.Sort.{Sort}
 use Rattle.hp_tree.proofs.term.Term.TheLaws.{the_size}
 use Rattle.hp_terms.specs.Weight.{weight, weights}
@@ -39,3 +41,11 @@ light_at ts i t limit e h light = omega (arith, light, weight_at ts i t h e)
 -- and is at most as deep as the deepest of them
 pub deep_at : (ts : List Term) (i : ℕ) (t : Term) → t ≡ get_or ts i t → i < length ts → the_size t ≤ most the_size ts
 deep_at ts i t e h = subst (λ (x : Term). the_size x ≤ most the_size ts) (sym e) (at_most the_size ts i t h)
+
+-- the right side of a difference is less deep
+right_less : (a b : Term) → the_size b < the_size (Sub a b)
+unfolding the_depth roll-Term denote.Hole.Rolled.depth denote.Hole.Carrier.fold block.hidden-the_row-Term-1 denote.Hole.Carrier.hidden
+right_less a b = omega arith
+
+pub right_falls : (t a b x : Term) → t ≡ Sub a b → x ≡ b → the_size x < the_size t
+right_falls t a b x e is = subst (λ (y : Term). the_size y < the_size t) (sym is) (subst (λ (y : Term). the_size b < the_size y) (sym e) (right_less a b))

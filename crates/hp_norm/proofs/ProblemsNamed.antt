@@ -77,7 +77,7 @@ module _ (p : Problem) (able : IsNameable p) where
   well_sorted : IsWellSorted p
   well_sorted = faultless_problems_are_well_sorted p able.sorted
 
-  start_sound : length (constants_of p.decls) ≤ most_names → IsSound (declared_ground p.decls)
+  pub start_sound : length (constants_of p.decls) ≤ most_names → IsSound (declared_ground p.decls)
   start_sound few = record {
     made = record {
       few = omega (arith, few);
@@ -124,11 +124,11 @@ module _ (p : Problem) (able : IsNameable p) where
   ready = clauses_ready p.clauses able.ready well_sorted.clauses able.light
 
   -- ---- the ground set
-  record IsStarted (g : Ground) : Type 0 where
-    few : length (constants_of p.decls) ≤ most_names
-    same : declared_ground p.decls ≡ g
+  pub record IsStarted (g : Ground) : Type 0 where
+    pub few : length (constants_of p.decls) ≤ most_names
+    pub same : declared_ground p.decls ≡ g
 
-  started : (g : Ground) → start p.decls ≡ Ok g → IsStarted g
+  pub started : (g : Ground) → start p.decls ≡ Ok g → IsStarted g
   started g e =
       (elim (nat_lt most_names (length (constants_of p.decls))) as (λ (t : Bool). nat_lt most_names (length (constants_of p.decls)) ≡ t
       → ◌≡◌ {A = Result Ground Limit} (cond t (Err many_names) (Ok (declared_ground p.decls))) (Ok g) → IsStarted g) [

@@ -11,6 +11,10 @@ use Rattle.hp_lit.specs.declared.refusal.Refusal.TheVariants as refused
 use Rattle.hp_linear.specs.Steps.{Refusable}
 use Rattle.hp_defs.specs.declared.names.Ground.{Ground}
 use Rattle.hp_defs.specs.Names.{NameList, with_constant, with_signature}
+use Rattle.hp_base.specs.Making.{Maker}
+use Rattle.hp_norm.specs.declared.flat.Flat.{Flat}
+use Rattle.hp_norm.specs.declared.flat.FlatClause.{FlatClause}
+use Rattle.hp_norm.specs.Flat.{flat_of}
 use Rattle.hp_norm.specs.Lines.{named_of}
 
 -- ---- literals
@@ -32,3 +36,16 @@ abbrev pub GroundFound : Problem → Result Ground GroundErr → Type 0
 GroundFound p (Ok g) = named_of p ≡ Ok g
 GroundFound p (Err (ground.Limit l)) = named_of p ≡ Err l
 GroundFound p (Err ground.Memory) = Unit {0}
+
+-- ---- flat clauses
+-- those that are made behind those that are there, or the limit that is passed
+abbrev pub MakesMore : Maker (List FlatClause) → Ground → Ground → List FlatClause → List FlatClause → Result (Unit {0}) GroundErr → Type 0
+MakesMore m old new flats longer (Ok done) = (more : List FlatClause) × (m old ≡ Ok (more, new)) × (longer ≡ flats ++ more)
+MakesMore m old new flats longer (Err (ground.Limit l)) = m old ≡ Err l
+MakesMore m old new flats longer (Err ground.Memory) = Unit {0}
+
+-- the flat clauses and the ground set that the problem has, or the first limit that it passes
+abbrev pub FlatFound : Problem → Result Flat GroundErr → Type 0
+FlatFound p (Ok flat) = flat_of p ≡ Ok (flat.clauses, flat.ground)
+FlatFound p (Err (ground.Limit l)) = flat_of p ≡ Err l
+FlatFound p (Err ground.Memory) = Unit {0}

@@ -10,7 +10,7 @@ use Rattle.hp_tree.specs.Universal.{HoldsAll, clause_at, universal}
 use Rattle.hp_terms.specs.Scope.{Scope}
 use Rattle.hp_terms.specs.Occurring.{functions_in}
 use Rattle.hp_terms.specs.Sorting.{atom_is_sorted, is_sorted, sort_of}
-use Rattle.hp_terms.specs.Weight.{IsLight, IsLightAtom}
+use Rattle.hp_terms.specs.Weight.{IsLight}
 use Rattle.hp_terms.specs.Words.{IsPlain}
 use Rattle.hp_lit.specs.declared.literal.Name.{Name}
 use Rattle.hp_lit.specs.declared.line.Arg.{Arg}
@@ -30,6 +30,7 @@ use Rattle.hp_base.specs.Values.{Extends}
 use Rattle.hp_sorts.specs.Faults.{sort_fault}
 use Rattle.hp_sorts.specs.Scopes.{problem_scope}
 use Rattle.hp_norm.specs.Lines.{constants_of, named_of, signatures_from}
+use Rattle.hp_norm.specs.Loads.{IsLightWithin, WeighsNoMore}
 use Rattle.hp_norm.specs.Naming.{named_atoms}
 use Rattle.hp_norm.specs.Scopes.{term_scope}
 use Rattle.hp_norm.specs.Sound.{AreValues, Grew, IsLater, IsSound, MakesOnly}
@@ -66,19 +67,20 @@ NamingSays = (p : Problem) (g : Ground) (v : Values) (env : Environment) (functi
 abbrev pub HasOneSort : Scope → Atom → Type 0
 HasOneSort scope atom = (sort : Sort) × (is_sorted scope sort atom ≡ true)
 
--- atoms without applications stand for others: they are of each sort that these are of, have the same first sort and the same truth
+-- atoms without applications stand for others: they are of each sort that these are of, have the same first sort and the same
+-- truth, and no side weighs more than that of the other atom outside of arguments
 pub record AreNamedAtoms (before after : Ground) (atoms flats : List Atom) : Type 0 where
   pub grew : Grew before after
   pub sound : IsSound after
-  pub light : All IsLightAtom flats
+  pub light : AllZip (WeighsNoMore (term_scope before.names)) atoms flats
   pub sorted : (end : Ground) → IsLater after end → AllZip (λ a f. (sort : Sort) → is_sorted (term_scope before.names) sort a ≡ true → is_sorted (flat_scope end.names) sort f ≡ true) atoms flats
   pub first : (end : Ground) → IsLater after end → AllZip (λ a f. sort_of (term_scope before.names) a ≡ sort_of (flat_scope end.names) f) atoms flats
   pub same : (end : Ground) (v : Values) (env : Environment) (functions : Functions) → IsLater after end → AreValues end v env functions
       → AllZip (λ a f. atom_is_true env functions f ≡ atom_is_true env functions a) atoms flats
 
--- each application of an atom over the names of a ground set gets a name
+-- each application of an atom over the names of a ground set gets a name, where indexes have small numbers
 abbrev pub AtomsAreNamed : Type 0
-AtomsAreNamed = (item : ℕ) (atoms flats : List Atom) (before after : Ground) → IsSound before → All IsLightAtom atoms → All (HasOneSort (term_scope before.names)) atoms
+AtomsAreNamed = (item : ℕ) (atoms flats : List Atom) (before after : Ground) → IsSound before → All (IsLightWithin (term_scope before.names)) atoms → All (HasOneSort (term_scope before.names)) atoms
     → named_atoms item atoms before ≡ Ok (flats, after) → AreNamedAtoms before after atoms flats
 
 -- ---- which functions are applied

@@ -1,7 +1,13 @@
 pub mod Scopes
+pub mod Loads
 pub mod Naming
+pub mod Trees
+pub mod Opening
 pub mod Lines
+pub mod Testing
 pub mod Waiting
+pub mod Flat
 pub mod Answers
 pub mod Sound
 pub mod Laws
+pub mod TermKeys

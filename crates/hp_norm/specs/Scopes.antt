@@ -1,6 +1,9 @@
--- What words mean in terms over the names of a ground set: its names and its functions.
-use Rattle.std.specs.Prelude.{false, Option, option_and_then, option_map, position, slice_get}
+-- What words mean in terms over the names of a ground set: its names, the variables of a clause, and its functions.
+use Rattle.std.specs.Prelude.{List, [], ◌∷◌, false, if◌then◌else◌, Option, Some, None, option_and_then, option_map, position, slice_get}
+use Rattle.std.specs.Option.{option_or}
 use Rattle.std.specs.Str.{bytes_eq}
+use Rattle.hp_tree.specs.declared.problem.Sort.{Sort}
+use Rattle.hp_tree.specs.declared.problem.Var.{Var}
 use Rattle.hp_tree.specs.Value.{Word}
 use Rattle.hp_terms.specs.Scope.{Profile, Scope}
 use Rattle.hp_defs.specs.declared.names.Signature.{Signature}
@@ -18,6 +21,19 @@ function_profile names word = option_map profile_of (signature_named names word)
 abbrev pub term_scope : NameList → Scope
 term_scope names = record {
   name = λ word. (flat_scope names).name word;
+  function = λ word. function_profile names word;
+  pointer = λ number. false;
+}
+
+-- the sort of the first variable with this word
+abbrev pub variable_sort : List Var → Word → Option Sort
+variable_sort [] word = None
+variable_sort (v ∷ vars) word = if bytes_eq v.name word then Some v.sort else variable_sort vars word
+
+-- the same in a clause with variables, which stand before names
+abbrev pub clause_scope : NameList → List Var → Scope
+clause_scope names vars = record {
+  name = λ word. option_or (variable_sort vars word) ((flat_scope names).name word);
   function = λ word. function_profile names word;
   pointer = λ number. false;
 }

@@ -1,19 +1,17 @@
 //! The lines of clauses without variables: the applications of a clause are named first, and then its literals are formed.
 
-ghost use Rattle.std.specs.Prelude.{◌≡◌, ◌+◌, ◌<◌, ◌≤◌, ◌^◌, length, IfOk};
+ghost use Rattle.std.specs.Prelude.{◌≡◌, ◌+◌, ◌<◌, ◌≤◌, ◌^◌, length};
 ghost use Rattle.std.specs.List.{All};
 ghost use Rattle.hp_tree.specs.Limits.{most_clauses};
 ghost use Rattle.hp_terms.specs.Weight.{IsLightAtom, IsLightClause};
 ghost use Rattle.hp_base.specs.Making.{Begins, Makes};
 ghost use Rattle.hp_norm.specs.Lines.{flat_line, ground_line, ground_lines};
-ghost use Rattle.hp_norm.specs.Naming.{named_atom, named_atoms};
 
 use crate::literals::flat_literals;
-use crate::naming::named;
+use crate::naming::named_atoms;
 use hp_base::{add_line, computed};
 use hp_defs::Ground;
 use hp_lit::{GroundErr, Line, Origin};
-use hp_num::List;
 use hp_tree::{Atom, Clause};
 use std::alloc::Global;
 
@@ -41,8 +39,8 @@ pub fn ground_lines(
 }
 
 /// Adds the line of the clause of this number, which is this item.
-#[tactic(auto, using(hp_base::proofs::Making::begins_same, hp_base::proofs::Making::begins_trans))]
-fn ground_line(
+#[tactic(auto, using(hp_base::proofs::Making::begins_same, hp_base::proofs::Making::begins_trans, crate::proofs::Loads::flats_are_light))]
+pub fn ground_line(
     alloc: Global,
     ground: &mut Ground,
     item: u32,
@@ -83,41 +81,4 @@ fn flat_line(
     let lits = computed(item, flat_literals(alloc, &ground.names, guard, head))?;
     let origin = Origin::Ground { clause: number };
     add_line(ground, Line { lits, origin })
-}
-
-/// The atoms with names for their applications, in their order.
-fn named_atoms(
-    alloc: Global,
-    ground: &mut Ground,
-    item: u32,
-    atoms: &[Atom],
-) -> Result<List<Atom>, GroundErr>
-    requires { All IsLightAtom atoms.now }
-    ensures made { Makes (named_atoms item atoms.now) ground.old ground.new result }
-    ensures kept { Begins ground.old ground.new }
-    ensures light { IfOk result (All IsLightAtom) }
-{
-    let mut all = List::new(alloc);
-    for atom in atoms {
-        let atom = named_atom(alloc, ground, item, atom)?;
-        all.push(atom)?;
-    }
-    Ok(all)
-}
-
-/// An atom with names for its applications, its left side first.
-#[tactic(auto, using(hp_base::proofs::Making::begins_same, hp_base::proofs::Making::begins_trans))]
-fn named_atom(alloc: Global, ground: &mut Ground, item: u32, atom: &Atom) -> Result<Atom, GroundErr>
-    requires { IsLightAtom atom.now }
-    ensures made { Makes (named_atom item atom.now) ground.old ground.new result }
-    ensures kept { Begins ground.old ground.new }
-    ensures light { IfOk result IsLightAtom }
-{
-    let left = named(alloc, ground, item, &atom.left)?;
-    let right = named(alloc, ground, item, &atom.right)?;
-    Ok(Atom {
-        left,
-        cmp: atom.cmp,
-        right,
-    })
 }

@@ -1,6 +1,7 @@
 //! What the names and lines of a problem say of the values of its terms. None of these laws has a cause to fail: they
 //! speak of all problems, and nothing is computed.
 
+ghost use Rattle.hp_norm.specs.Flat.{FlatteningNames, FlatteningSays};
 ghost use Rattle.hp_norm.specs.Laws.{AtomsAreNamed, AtomsMakeOnly, AtomsNeedConstantsAlone, ClausesHoldAtOnce, ClausesNeedConstantsAlone, DefinitionsAreFound, NamingFits, NamingSays};
 
 /// The ground set of a problem without variables has the declared names, definitions that fit the names before them,
@@ -15,8 +16,8 @@ pub fn naming_says()
     ensures { NamingSays }
 {}
 
-/// Atoms over the names of a ground set become atoms without applications: they keep their sorts and their truth in each
-/// ground set that grows from there, and the numbers of no side grow.
+/// Atoms over the names of a ground set become atoms without applications, where the arguments that are indexes have small
+/// numbers: they keep their sorts and their truth in each ground set that grows from there, and the numbers of no side grow.
 pub fn atoms_are_named()
     ensures { AtomsAreNamed }
 {}
@@ -47,4 +48,15 @@ pub fn clauses_need_constants_alone()
 /// list of values.
 pub fn clauses_hold_at_once()
     ensures { ClausesHoldAtOnce }
+{}
+
+/// The ground set of a problem begins with its declared names, its lines are true exactly where the clauses without
+/// variables are, and each other clause has a flat clause, which is sorted and true at the same values of the variables.
+pub fn flattening_says()
+    ensures { FlatteningSays }
+{}
+
+/// A problem without variables has no flat clauses, and the ground set, or the limit, that naming it gives.
+pub fn flattening_names()
+    ensures { FlatteningNames }
 {}

@@ -105,7 +105,7 @@ fn first_sort(names: &Names, term: &Term) -> Option<Sort>
 }
 
 /// The sort of the name that a word stands for, or `None` where it stands for none.
-fn word_sort(names: &Names, word: &Text) -> Option<Sort>
+pub fn word_sort(names: &Names, word: &Text) -> Option<Sort>
     ensures { result ≡ (flat_scope names.now).name word.now }
 {
     match names.words().position(word.as_slice()) {

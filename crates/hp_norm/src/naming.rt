@@ -1,34 +1,38 @@
-//! Terms whose applications become names: inner before outer, arguments from left to right, each argument whole before the
-//! next one.
+//! Terms and atoms whose applications become names: inner before outer, arguments from left to right, each argument whole
+//! before the next one. Numbers may be large where they are no indexes.
 
-ghost use Rattle.std.specs.Prelude.{◌≡◌, ◌<◌, ◌≤◌, length, map, Some, IfOk};
-ghost use Rattle.std.specs.List.{All};
-ghost use Rattle.hp_terms.specs.Weight.{largest_offset, weight, weights};
+ghost use Rattle.std.specs.Prelude.{◌≡◌, ◌<◌, ◌≤◌, length, map, slice_get, Some, IfOk};
+ghost use Rattle.std.specs.List.{All, AllZip};
+ghost use Rattle.hp_terms.specs.Weight.{weight};
+ghost use Rattle.hp_defs.specs.declared.names.Signature.{Signature as SignatureValue};
 ghost use Rattle.hp_defs.specs.Made.{IsSmallArg};
 ghost use Rattle.hp_base.specs.Making.{Begins, Makes};
-ghost use Rattle.hp_norm.specs.Naming.{applied, applied_at, arguments, name_term, named, placed_argument};
+ghost use Rattle.hp_norm.specs.Loads.{ArgumentsAreLight, HasLightIndexes, IsLightPlace, IsLightWithin, WeighsNoMore, argument_sorts, load};
+ghost use Rattle.hp_norm.specs.Scopes.{function_profile, term_scope};
+ghost use Rattle.hp_norm.specs.Naming.{named_atom, named_atoms, applied, applied_at, arguments, name_term, named, placed_argument};
 
 use hp_base::{argument, definition};
 use hp_defs::{Ground, Names, word_of};
 use hp_lit::{Arg, GroundErr, Name};
 use hp_num::{List, Text};
-use hp_tree::{Sort, Term};
+use hp_tree::{Atom, Sort, Term};
 use sqlite_items::Boxed;
 use std::alloc::{AllocError, Global};
 
 /// The term of an item with a name for each of its applications: the word of the definition, found or made. An application
 /// of a function that there isn't becomes null.
 ///
-/// It asks for numbers whose numerators' magnitudes add up to at most 2 * 10^24, and those of the result add up to no more.
-/// The limits are those of definitions and arguments, in the order of their making, with this item, counted from 1; at an
-/// error what was there before still is.
-#[tactic(auto, using(hp_base::proofs::Making::begins_same, hp_base::proofs::Making::begins_trans))]
+/// It asks for a term of which the arguments that are indexes have small numbers: the magnitudes of their numerators add up
+/// to at most 2 * 10^24, each outside of its own arguments; other numbers may be large. The numbers of the result add up to
+/// no more than those of the term outside of arguments. The limits are those of definitions and arguments, in the order of
+/// their making, with this item, counted from 1; at an error what was there before still is.
+#[tactic(auto, using(hp_base::proofs::Making::begins_same, hp_base::proofs::Making::begins_trans, crate::proofs::Loads::light_later, crate::proofs::Loads::difference_later))]
 #[cycle(named)]
 pub fn named(alloc: Global, ground: &mut Ground, item: u32, term: &Term) -> Result<Term, GroundErr>
-    requires { weight term.now ≤ largest_offset }
+    requires { HasLightIndexes (term_scope ground.old.names) term.now }
     ensures made { Makes (named item term.now) ground.old ground.new result }
     ensures kept { Begins ground.old ground.new }
-    ensures light { IfOk result (λ flat. weight flat ≤ weight term.now) }
+    ensures light { IfOk result (λ flat. weight flat ≤ (load (term_scope ground.old.names) term.now).own) }
 {
     match term {
         Term::Number(number) => Ok(Term::Number(*number)),
@@ -59,14 +63,14 @@ pub fn named(alloc: Global, ground: &mut Ground, item: u32, term: &Term) -> Resu
 /// The name of the application of a function, as a term.
 #[tactic(auto, using(hp_base::proofs::Making::begins_same, hp_base::proofs::Making::begins_trans))]
 #[cycle(named)]
-fn application(
+pub fn application(
     alloc: Global,
     ground: &mut Ground,
     item: u32,
     func: &Text,
     args: &[Term],
 ) -> Result<Term, GroundErr>
-    requires { weights (map weight args.now) ≤ largest_offset }
+    requires { ArgumentsAreLight ground.old.names (argument_sorts (function_profile ground.old.names func.now)) args.now }
     ensures made { Makes (applied item func.now (map (named item) args.now)) ground.old ground.new result }
     ensures kept { Begins ground.old ground.new }
     ensures light { IfOk result (λ flat. weight flat ≡ 0) }
@@ -88,7 +92,7 @@ fn application_at(
     args: &[Term],
 ) -> Result<Term, GroundErr>
     requires known { at < length ground.old.names.signatures }
-    requires light { weights (map weight args.now) ≤ largest_offset }
+    requires light { (signature : SignatureValue) → slice_get ground.old.names.signatures at ≡ Some signature → ArgumentsAreLight ground.old.names signature.args args.now }
     ensures made { Makes (applied_at item (map (named item) args.now) (Some at)) ground.old ground.new result }
     ensures kept { Begins ground.old ground.new }
     ensures light { IfOk result (λ flat. weight flat ≡ 0) }
@@ -110,7 +114,7 @@ fn arguments(
     sorts: &[Sort],
     terms: &[Term],
 ) -> Result<List<Arg>, GroundErr>
-    requires { weights (map weight terms.now) ≤ largest_offset }
+    requires { ArgumentsAreLight ground.old.names sorts.now terms.now }
     ensures made { Makes (arguments item sorts.now (map (named item) terms.now)) ground.old ground.new result }
     ensures kept { Begins ground.old ground.new }
     ensures small { IfOk result (All IsSmallArg) }
@@ -136,13 +140,54 @@ fn placed_argument(
     sort: Sort,
     term: &Term,
 ) -> Result<Arg, GroundErr>
-    requires { weight term.now ≤ largest_offset }
+    requires { IsLightPlace sort (load (term_scope ground.old.names) term.now) }
     ensures made { Makes (placed_argument item (record { named = named item term.now; sort = sort })) ground.old ground.new result }
     ensures kept { Begins ground.old ground.new }
     ensures small { IfOk result IsSmallArg }
 {
     let flat = named(alloc, ground, item, term)?;
     argument(alloc, ground, item, sort, &flat)
+}
+
+/// The atoms of an item with names for their applications, in their order.
+///
+/// It asks for atoms of which the arguments that are indexes have small numbers, on each side as in `named`. The numbers of a
+/// side of the result add up to no more than those of that side outside of arguments. The first limit that is passed is the
+/// one that comes, with this item, counted from 1; at an error what was there before still is.
+pub fn named_atoms(
+    alloc: Global,
+    ground: &mut Ground,
+    item: u32,
+    atoms: &[Atom],
+) -> Result<List<Atom>, GroundErr>
+    requires { All (IsLightWithin (term_scope ground.old.names)) atoms.now }
+    ensures made { Makes (named_atoms item atoms.now) ground.old ground.new result }
+    ensures kept { Begins ground.old ground.new }
+    ensures light { IfOk result (AllZip (WeighsNoMore (term_scope ground.old.names)) atoms.now) }
+{
+    let mut all = List::new(alloc);
+    for atom in atoms {
+        let atom = named_atom(alloc, ground, item, atom)?;
+        all.push(atom)?;
+    }
+    Ok(all)
+}
+
+/// An atom with names for its applications, its left side first.
+#[tactic(auto, using(hp_base::proofs::Making::begins_same, hp_base::proofs::Making::begins_trans, crate::proofs::Loads::light_later, crate::proofs::Loads::own_later))]
+fn named_atom(alloc: Global, ground: &mut Ground, item: u32, atom: &Atom) -> Result<Atom, GroundErr>
+    requires { IsLightWithin (term_scope ground.old.names) atom.now }
+    ensures made { Makes (named_atom item atom.now) ground.old ground.new result }
+    ensures kept { Begins ground.old ground.new }
+    ensures light { IfOk result (WeighsNoMore (term_scope ground.old.names) atom.now) }
+{
+    let left = named(alloc, ground, item, &atom.left)?;
+    let right = named(alloc, ground, item, &atom.right)?;
+    Ok(Atom {
+        left,
+        cmp: atom.cmp,
+        right,
+    })
 }
 
 /// The word of a definition as a term.

@@ -16,7 +16,7 @@ pub fn is_waiting(p: &Problem) -> bool
 }
 
 /// Whether the clause has a variable.
-fn has_variables(clause: &Clause) -> bool
+pub fn has_variables(clause: &Clause) -> bool
     ensures { result ≡ has_variables clause.now }
 {
     clause.vars.len() > 0
