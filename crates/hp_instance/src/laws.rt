@@ -1,0 +1,22 @@
+//! What the lines of clauses at arguments say. None of these laws has a cause to fail: they speak of all clauses and
+//! arguments, and nothing is computed.
+
+ghost use Rattle.hp_instance.specs.Laws.{ArgumentsComeBack, InstancesSay, TuplesFit};
+
+/// Arguments of the sorts of the variables fit a flat clause where each side of each atom has room for their offsets: the
+/// magnitudes of its numerators, and the bound on offsets once for each name, add up to at most 2 * 10^24.
+pub fn tuples_fit()
+    ensures { TuplesFit }
+{}
+
+/// The line of a flat clause at arguments that fit is true exactly where the clause is at their values, where names have
+/// values of their sorts, words the values of their names, and definitions those of their bodies. What was there before still
+/// is, and the ground set stays sound.
+pub fn instances_say()
+    ensures { InstancesSay }
+{}
+
+/// The term of an argument of a sort is that argument again where it stands as one, and nothing is made.
+pub fn arguments_come_back()
+    ensures { ArgumentsComeBack }
+{}
