@@ -1,0 +1,15 @@
+pub mod Applies
+pub mod Telling
+pub mod Guards
+pub mod SmallSums
+pub mod KeptPoints
+pub mod InOrder
+pub mod Written
+pub mod OrderedPairs
+pub mod Still
+pub mod Kept
+pub mod Complete
+pub mod Fits
+pub mod PairLoops
+pub mod PairsFit
+pub mod ClassLaws

@@ -1,0 +1,13 @@
+//! Tables of functions through their applications, and the pairs of applications at which monotone clauses have instances.
+#![tactic(auto)]
+
+mod index;
+mod pairs;
+mod places;
+mod steps;
+mod tables;
+mod values;
+
+pub use pairs::add_pair_lines;
+pub use steps::step_table;
+pub use tables::{free_table, table};
