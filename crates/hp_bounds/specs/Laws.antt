@@ -1,10 +1,14 @@
 -- How little a text of some length can spell.
-use Rattle.std.specs.Prelude.{ℕ, ◌+◌, ◌≤◌, List, length}
+use Rattle.std.specs.Prelude.{◌≡◌, ℕ, ◌+◌, ◌≤◌, List, length, false}
+use Rattle.std.specs.List.{All}
 use Rattle.hp_tree.specs.Limits.{most_bytes}
+use Rattle.hp_tree.specs.declared.problem.Clause.{Clause}
 use Rattle.hp_tree.specs.declared.problem.Problem.{Problem}
 use Rattle.hp_grammar.specs.Spells.{Spells}
 use Rattle.hp_terms.specs.Weight.{IsLight}
-use Rattle.hp_terms.specs.Words.{IsPlain}
+use Rattle.hp_terms.specs.Words.{IsPlain, IsPlainWord, declared_word}
+use Rattle.hp_names.specs.Names.{is_among}
+use Rattle.hp_local.specs.Rows.{argument_words}
 use Rattle.hp_bounds.specs.Depth.{IsShallow}
 
 -- no more declarations and clauses than bytes
@@ -22,3 +26,14 @@ ShallowTerms = (bytes : List ℕ) (p : Problem) → Spells bytes p → IsShallow
 -- a declared name begins with a letter, so it is no word of a definition
 abbrev pub PlainNames : Type 0
 PlainNames = (bytes : List ℕ) (p : Problem) → Spells bytes p → IsPlain p
+
+-- a declared name begins with a letter, so it is no word of an argument in a table (`$1` to `$4`)
+abbrev pub PlainArguments : Type 0
+PlainArguments = (bytes : List ℕ) (p : Problem) → Spells bytes p → All (λ d. is_among (declared_word d) argument_words ≡ false) p.decls
+
+-- and so does each variable
+abbrev pub HasPlainVariables : Clause → Type 0
+HasPlainVariables clause = All (λ v. IsPlainWord v.name) clause.vars
+
+abbrev pub PlainVariables : Type 0
+PlainVariables = (bytes : List ℕ) (p : Problem) → Spells bytes p → All HasPlainVariables p.clauses
