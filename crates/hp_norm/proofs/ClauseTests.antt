@@ -1,29 +1,22 @@
 -- The tests of a clause: its atoms, the arguments of its applications, and the whole.
-use Rattle.std.proofs.Common.{◌≡◌, ℕ, ◌+◌, ◌<◌, ◌≤◌, Bool, true, false, List, [], ◌∷◌, length, get_or, drop, Option, Some, None, Result, Ok, Err, refl, sym, ap, subst, ◌∙◌}
-use Rattle.std.specs.Prelude.{position, slice_get, option_and_then}
-use Rattle.std.specs.Str.{bytes_eq}
+use Rattle.std.proofs.Common.{◌≡◌, ℕ, ◌+◌, ◌<◌, ◌≤◌, zero, suc, arith, Bool, true, false, List, [], ◌∷◌, length, get_or, drop, Result, Ok, Err, refl, sym, ap, subst, ◌∙◌}
 use Rattle.std.specs.Result.{IsErrAnd}
 use Rattle.std.proofs.lemmas.List.{drop_more}
 use Rattle.hp_num.specs.Wide.{◌>>=◌}
-use Rattle.hp_tree.specs.declared.term.Term.{Term, Apply, out-Term, out-roll-Term}
-use Rattle.hp_tree.specs.declared.term.Term.TheOpen.{Term-F}
-use Rattle.hp_tree.specs.declared.term.Term.TheVariants.{rolls-Apply}
+use Rattle.hp_tree.specs.declared.term.Term.{Term, out-Term}
 use Rattle.hp_tree.specs.declared.problem.Atom.{Atom}
 use Rattle.hp_tree.specs.declared.problem.Sort.{Sort}
 use Rattle.hp_tree.specs.declared.problem.Var.{Var}
-use Rattle.hp_tree.specs.Value.{Word}
 use Rattle.hp_terms.specs.Scope.{Scope}
 use Rattle.hp_terms.specs.Sorting.{sort_of}
 use Rattle.hp_lit.specs.declared.refusal.Refusal.{Refusal}
 use Rattle.hp_linear.specs.Answers.{Answers}
 use Rattle.hp_linear.specs.Steps.{Refusable}
-use Rattle.hp_defs.specs.declared.names.Signature.{Signature}
-use Rattle.hp_defs.specs.Names.{NameList, function_words}
+use Rattle.hp_defs.specs.Names.{NameList}
 use Rattle.hp_norm.specs.declared.flat.FlatClause.{FlatClause}
 use Rattle.hp_norm.specs.declared.standing.Standing.{Standing}
-use Rattle.hp_norm.specs.Scopes.{clause_scope, signature_named}
-use Rattle.hp_norm.specs.Testing.{places, standing_of, tested, tested_apps, tested_args, tested_as, tested_atoms, tested_layer}
-use Rattle.hp_norm.proofs.LiteralSteps.{drop_end}
+use Rattle.hp_norm.specs.Scopes.{clause_scope}
+use Rattle.hp_norm.specs.Testing.{standing_of, tested, tested_apps, tested_args, tested_as, tested_atoms, tested_layer}
 use Rattle.hp_norm.proofs.TestSteps.{test_failed, test_passed, tests_passed}
 
 -- the next of a list
@@ -56,32 +49,19 @@ module _ (names : NameList) (s : Standing) (apps items : List Term) (same : item
   pub app_failed : (e : Refusal) (r : Result (Unit {0}) Refusal) → Answers (tested_layer names s (out-Term app)) (Err e) → IsErrAnd r (λ x. x ≡ e) → Answers (tested_apps names s apps) r
   app_failed e r h k = test_failed (tested_apps names s apps) (tested_layer names s (out-Term app)) (tested_apps names s (drop (i + 1) apps)) e r from_app h k
 
--- the layer of an application
-pub apply_tested : (names : NameList) (s : Standing) (app : Term) (func : Word) (args given : List Term) (r : Result (Unit {0}) Refusal) → app ≡ Apply func args → given ≡ args
-    → Answers (tested_args s (places (signature_named names func)) given) r → Answers (tested_layer names s (out-Term app)) r
-apply_tested names s app func args given r is same h =
-    let layer : out-Term app ≡ Term-F.Apply func args = ap out-Term (is ∙ sym (rolls-Apply func args)) ∙ out-roll-Term (Term-F.Apply func args) in
-    subst (λ (y : Term-F Term). Answers (tested_layer names s y) r) (sym layer)
-    (subst (λ (ts : List Term). Answers (tested_args s (places (signature_named names func)) ts) r) same h)
-
 -- ---- arguments
+drop_end : {X : Type 0} (xs : List X) (i : ℕ) → length xs ≤ i → drop i xs ≡ []
+drop_end [] zero h = refl
+drop_end [] (suc i) h = refl
+drop_end (x ∷ xs) zero h = absurd (omega arith)
+drop_end (x ∷ xs) (suc i) h = drop_end xs i (omega arith)
+
 pub no_args : (s : Standing) (sorts : List Sort) → tested_args s sorts [] ≡ Ok tt
 no_args s [] = refl
 no_args s (sort ∷ sorts) = refl
 
 pub args_over : (s : Standing) (sorts : List Sort) (args : List Term) (i : ℕ) → length args ≤ i → tested_args s sorts args ≡ tested_args s (drop i sorts) (drop i args) → tested_args s sorts args ≡ Ok tt
 args_over s sorts args i h so_far = so_far ∙ ap (tested_args s (drop i sorts)) (drop_end args i h) ∙ no_args s (drop i sorts)
-
-pub places_over : (s : Standing) (sorts : List Sort) (args : List Term) (i : ℕ) → length sorts ≤ i → tested_args s sorts args ≡ tested_args s (drop i sorts) (drop i args) → tested_args s sorts args ≡ Ok tt
-places_over s sorts args i h so_far = so_far ∙ ap (λ (ss : List Sort). tested_args s ss (drop i args)) (drop_end sorts i h)
-
--- the places of a function that there is, and of one that there isn't
-pub places_found : (names : NameList) (word : Word) (at : ℕ) (signature : Signature) → Some at ≡ position (bytes_eq word) (function_words names) → slice_get names.signatures at ≡ Some signature
-    → places (signature_named names word) ≡ signature.args
-places_found names word at signature e is = ap (λ (o : Option ℕ). places (option_and_then (λ k. slice_get names.signatures k) o)) (sym e) ∙ ap places is
-
-pub places_nowhere : (names : NameList) (word : Word) → None ≡ position (bytes_eq word) (function_words names) → places (signature_named names word) ≡ []
-places_nowhere names word e = ap (λ (o : Option ℕ). places (option_and_then (λ k. slice_get names.signatures k) o)) (sym e)
 
 -- ---- a clause
 module _ (names : NameList) (c : FlatClause) (s : Standing) (vars : List Var) (guard head : List Atom) (made : s ≡ standing_of names c) (vs : vars ≡ c.vars) (gs : guard ≡ c.guard) (hs : head ≡ c.head) where

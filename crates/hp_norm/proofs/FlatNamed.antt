@@ -37,14 +37,13 @@ use Rattle.hp_sorts.specs.Scopes.{problem_scope}
 use Rattle.hp_sorts.specs.Symbols.{constant_names, constant_sorts, function_names, is_declared, symbols}
 use Rattle.hp_sorts.proofs.Places.{named-cons}
 use Rattle.hp_norm.specs.declared.flat.FlatClause.{FlatClause}
-use Rattle.hp_norm.specs.Flat.{IsFlatOf, chosen, clause_made, clauses_made, flat_clause, tested_clause, with_variables, without_variables}
+use Rattle.hp_norm.specs.Flat.{IsFlatOf, are_some, chosen, clause_made, clauses_made, flat_clause, has_variables, tested_clause, with_variables, without_variables}
 use Rattle.hp_norm.specs.Laws.{HasOneSort}
 use Rattle.hp_norm.specs.Lines.{declared_ground, declared_names, ground_line}
 use Rattle.hp_norm.specs.Opening.{is_variable, opened, opened_atoms}
 use Rattle.hp_norm.specs.Scopes.{clause_scope, variable_sort}
 use Rattle.hp_norm.specs.Sound.{AreTrue, AreValues, Grew, IsLater, IsSound}
 use Rattle.hp_norm.specs.Testing.{tested}
-use Rattle.hp_norm.specs.Waiting.{are_some, has_variables}
 use Rattle.hp_norm.proofs.AtomsNamed.{IsSortedIn, all_stay_true, atoms_named, atoms_stay_sorted, one_stays_true}
 use Rattle.hp_norm.proofs.ClauseScopes.{AreApart, apart_stays, clause_grows, not_variable}
 use Rattle.hp_norm.proofs.DeclaredWords.{constant_is_named, declared_scope, function_is_declared, words_of}
@@ -57,7 +56,7 @@ use Rattle.hp_norm.proofs.OpenedKept.{IsClauseOver, in_clause}
 use Rattle.hp_norm.proofs.TermsKept.{later_through}
 
 -- ---- variables
-none_are : (vars : List Var) → are_some vars ≡ false → vars ≡ []
+pub none_are : (vars : List Var) → are_some vars ≡ false → vars ≡ []
 none_are [] e = refl
 none_are (var ∷ vars) e = absurd (cc)
 
@@ -71,7 +70,7 @@ tests_turn x y = by (bytes_eq x y) (bytes_eq y x) refl refl
     by false true e f = sym e ∙ ap (λ z. bytes_eq x z) (same_text y x f) ∙ text_same x
 
 -- the sort of a variable is that of its place
-variable_has_sort : (vars : List Var) (word : Word) → named word (map (λ v. v.name) vars) (map (λ v. v.sort) vars) ≡ variable_sort vars word
+pub variable_has_sort : (vars : List Var) (word : Word) → named word (map (λ v. v.name) vars) (map (λ v. v.sort) vars) ≡ variable_sort vars word
 variable_has_sort [] word = refl
 variable_has_sort (v ∷ vars) word =
     named-cons word v.name (map (λ u. u.name) vars) v.sort (map (λ u. u.sort) vars)

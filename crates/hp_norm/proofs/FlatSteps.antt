@@ -1,6 +1,6 @@
 -- Flat clauses and lines of clauses, one after the other.
-use Rattle.std.proofs.Common.{◌≡◌, ◌≤◌, ℕ, suc, ◌+◌, List, [], ◌∷◌, ◌++◌, Bool, length, drop, Result, Ok, Err, refl, sym, ap, subst, ◌∙◌, add-one, append-nil, append_assoc}
-use Rattle.std.specs.Prelude.{if◌then◌else◌}
+use Rattle.std.proofs.Common.{◌≡◌, ◌≤◌, ℕ, suc, ◌+◌, List, [], ◌∷◌, ◌++◌, Bool, false, length, drop, Result, Ok, Err, refl, sym, ap, subst, ◌∙◌, add-one, append-nil, append_assoc, arith}
+use Rattle.std.specs.Prelude.{nat_lt, if◌then◌else◌}
 use Rattle.std.specs.Result.{IsErrAnd}
 use Rattle.hp_num.specs.Wide.{◌>>=◌}
 use Rattle.hp_tree.specs.Limits.{most_names}
@@ -18,10 +18,8 @@ use Rattle.hp_base.proofs.Each.{behind}
 use Rattle.hp_norm.specs.declared.flat.Flat.{Flat}
 use Rattle.hp_norm.specs.declared.flat.FlatClause.{FlatClause}
 use Rattle.hp_norm.specs.Answers.{FlatFound, MakesMore}
-use Rattle.hp_norm.specs.Flat.{clause_made, clauses_made, flat_of}
+use Rattle.hp_norm.specs.Flat.{clause_made, clauses_made, flat_of, has_variables}
 use Rattle.hp_norm.specs.Lines.{constants_of, declared_ground}
-use Rattle.hp_norm.specs.Waiting.{has_variables}
-use Rattle.hp_norm.proofs.GroundsFound.{not_lesser}
 
 behind_behind : {A : Type 0} (all more : List A) (r : Result (List A × Ground) Which) → behind all (behind more r) ≡ behind (all ++ more) r
 behind_behind {A} all more (Ok x) = ap (λ (xs : List A). ◌then◌ {A = List A} (Ok (xs, x.1)) (λ zs. λ end. Ok (zs, end))) (sym (append_assoc all more x.0))
@@ -71,10 +69,6 @@ module _ (before : ℕ) (clauses : List Clause) where
         → Makes (clauses_made before 1 clauses) old next r
     flattened_err next longer e r h s = makes_same_err (clauses_made before 1 clauses) old next r e s (stops next longer e h)
 
-  pub flattened_end : (i : ℕ) (flats : List FlatClause) (old now : Ground) → drop i clauses ≡ [] → IsFlattened before clauses i flats old now → clauses_made before 1 clauses old ≡ Ok (flats, now)
-  flattened_end i flats old now h so_far =
-      so_far.rest ∙ ap (λ (cs : List Clause). behind flats (clauses_made before (i + 1) cs now)) h ∙ ap (λ (fs : List FlatClause). Ok (fs, now)) (append-nil flats)
-
 -- ---- a clause
 -- the call that made it, from its maker
 pub more_flat : (m : Maker FlatClause) (old new : Ground) (flats longer : List FlatClause) (flat : FlatClause) → m old ≡ Ok (flat, new) → longer ≡ flats ++ flat ∷ []
@@ -98,6 +92,9 @@ more_line m old new flats longer (Err (Limit l)) is h = ap (λ (q : Result (Unit
 more_line m old new flats longer (Err Memory) is h = tt
 
 -- ---- a problem
+not_lesser : (m n : ℕ) → n ≤ m → nat_lt m n ≡ false
+not_lesser m n h = grind (arith, h)
+
 -- names that may be so many, and what the clauses add to them
 pub after_names : (p : Problem) → length (constants_of p.decls) ≤ most_names → flat_of p ≡ clauses_made (length p.decls) 1 p.clauses (declared_ground p.decls)
 after_names p h =

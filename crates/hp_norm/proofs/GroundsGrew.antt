@@ -24,9 +24,6 @@ grew_through old mid new p q = record {
       (λ all. rest.0 (first.0 all), λ all. first.1 (rest.1 all));
 }
 
-pub grew_equal : (old new : Ground) → old ≡ new → Grew old new
-grew_equal old new e = subst (Grew old) e (grew_same old)
-
 pub argument_grew : (item : ℕ) (sort : Sort) (term : Term) (arg : Arg) (before after : Ground) → argument_of item sort term before ≡ Ok (arg, after) → Grew before after
 argument_grew item sort term arg before after e = record {
   begins = arguments_begin item sort term arg before after e;

@@ -10,9 +10,7 @@ mod Weighing
 mod Placed
 mod Applied
 mod LiteralSteps
-mod ClauseSteps
 mod Declaring
-mod GroundsFound
 pub mod NamedWords
 pub mod DefinitionsFound
 pub mod DeclaredWords
@@ -28,12 +26,12 @@ pub mod MakingOnly
 pub mod TermsOnly
 pub mod LiteralsTrue
 pub mod LinesNamed
-pub mod ProblemsNamed
-pub mod ConstantsAlone
+pub mod DeclaredGround
 pub mod ClauseScopes
 pub mod Mentioned
 pub mod OpenedKept
 pub mod OpenedAlways
 pub mod FlatNamed
+pub mod ConstantsAlone
+pub mod HoldsAtOnce
 pub mod ProblemsFlat
-mod FlatAlone

@@ -1,7 +1,7 @@
 -- Each clause without variables becomes a line that is true exactly where the clause is.
-use Rattle.std.proofs.Common.{◌≡◌, ◌↔◌, ◌+◌, ◌||◌, ◌++◌, ℕ, not, true, List, [], ◌∷◌, get_or, Some, Ok, refl, sym, ap, subst, ◌∙◌}
+use Rattle.std.proofs.Common.{◌≡◌, ◌↔◌, ◌||◌, ◌++◌, ℕ, not, true, List, [], ◌∷◌, get_or, Some, Ok, refl, sym, ap, subst, ◌∙◌}
 use Rattle.std.specs.List.{All}
-use Rattle.std.proofs.lemmas.List.Elements.{All-nil, All-cons, All-head, All-pop, All-push, All-tail}
+use Rattle.std.proofs.lemmas.List.Elements.{All-nil, All-cons, All-head, All-pop, All-push}
 use Rattle.hp_tree.specs.declared.problem.Var.{Var}
 use Rattle.hp_tree.specs.declared.problem.Atom.{Atom}
 use Rattle.hp_tree.specs.declared.problem.Clause.{Clause}
@@ -21,11 +21,11 @@ use Rattle.hp_base.specs.Making.{Begins, ◌then◌, computed}
 use Rattle.hp_base.specs.Lines.{add_line, flat_scope, with_line}
 use Rattle.hp_base.proofs.Making.{begins_line, begins_names, begins_same, begins_trans}
 use Rattle.hp_base.proofs.Growing.{came}
-use Rattle.hp_base.proofs.ArgsSteps.{agrees_before, computed_gave, gave, line_added}
+use Rattle.hp_base.proofs.ArgsSteps.{agrees_before, computed_gave, line_added}
 use Rattle.hp_base.proofs.CongruentLine.{lines_keep_sums}
 use Rattle.hp_base.proofs.SumsHold.{sums_hold_by_bodies}
 use Rattle.hp_norm.specs.Naming.{named, named_atoms}
-use Rattle.hp_norm.specs.Lines.{flat_line, flat_literals, from_clause, ground_line, ground_lines}
+use Rattle.hp_norm.specs.Lines.{flat_line, flat_literals, from_clause, ground_line}
 use Rattle.hp_norm.specs.Laws.{HasOneSort, IsFitLine}
 use Rattle.hp_norm.specs.Sound.{AreTrue, AreValues, IsLater}
 use Rattle.hp_norm.proofs.AtomsNamed.{IsSortedIn, all_stay_true, atoms_named, atoms_stay_sorted, one_stays_true}
@@ -48,15 +48,15 @@ pub record IsReadyClause (scope : Scope) (clause : Clause) : Type 0 where
   pub light : IsLightClause clause
 
 module _ (scope : Scope) where
-  -- lines were added that are true exactly where these clauses are
-  pub record AreLined (before after : Ground) (clauses : List Clause) : Type 0 where
+  -- a line was added that is true exactly where the clause is
+  pub record IsLined (before after : Ground) (clause : Clause) : Type 0 where
     pub begins : Begins before after
     pub over : IsOver scope after
     pub says : (end : Ground) (v : Values) (env : Environment) (functions : Functions) → IsLater after end → AreValues end v env functions → HaveSorts (sorts end.names) v
-        → AreTrue v after.lines ↔ (AreTrue v before.lines × All (ClauseHolds env functions) clauses)
+        → AreTrue v after.lines ↔ (AreTrue v before.lines × All (ClauseHolds env functions) (clause ∷ []))
 
-  lined_to : (before mid after : Ground) (clauses : List Clause) → mid ≡ after → AreLined before mid clauses → AreLined before after clauses
-  lined_to before mid after clauses e h = subst (λ (g : Ground). AreLined before g clauses) e h
+  lined_to : (before mid after : Ground) (clause : Clause) → mid ≡ after → IsLined before mid clause → IsLined before after clause
+  lined_to before mid after clause e h = subst (λ (g : Ground). IsLined before g clause) e h
 
   line_over : (g : Ground) (line : Line) → IsOver scope g → All (IsFit (sorts g.names)) line.lits → IsOver scope (with_line g line)
   line_over g line over fit =
@@ -83,7 +83,7 @@ module _ (scope : Scope) where
       ap (λ (vars : List Var). not (all_true (assign vars [] env) functions clause.guard) || one_true (assign vars [] env) functions clause.head) (sym none)
 
   pub clause_lined : (item number : ℕ) (clause : Clause) (done : Unit {0}) (before after : Ground) → IsReadyClause scope clause → IsOver scope before
-      → ground_line item number clause before ≡ Ok (done, after) → AreLined before after (clause ∷ [])
+      → ground_line item number clause before ≡ Ok (done, after) → IsLined before after clause
   clause_lined item number clause done before after ready over e =
       let s = came (named_atoms item clause.guard before) (λ guard. λ mid. named_atoms item clause.head mid then λ head. flat_line item number guard head) done after e in
       let guards = atoms_named (by_names scope) (named item) clause.guard s.value before s.mid (terms_are_named scope item) (have_sorts clause.guard ready.guard) (light_within scope clause.guard ready.light.guard) over s.first in
@@ -101,7 +101,7 @@ module _ (scope : Scope) where
       let lighter = flats_are_light scope clause.head t.value ready.light.head heads.light in
       let fit = clause_fits t.mid.names s.value t.value u.value sorted also light lighter c.value in
       let grew = grew_through before s.mid t.mid guards.grew heads.grew in
-      lined_to before (with_line t.mid line) after (clause ∷ []) (ap (λ (g : Ground). with_line g line) c.ground ∙ line_added line done u.mid after u.rest)
+      lined_to before (with_line t.mid line) after clause (ap (λ (g : Ground). with_line g line) c.ground ∙ line_added line done u.mid after u.rest)
       (record {
         begins = begins_trans before t.mid (with_line t.mid line) grew.begins (begins_with t.mid line);
         over = line_over t.mid line heads.over fit;
@@ -120,28 +120,3 @@ module _ (scope : Scope) where
               λ both. All-push IsTrueLine t.mid.lines line (truth.0 both.0) (says.1 (same ∙ All-head (ClauseHolds env functions) clause [] both.1)),
             );
       })
-
-  pub clauses_lined : (offset number : ℕ) (clauses : List Clause) (done : Unit {0}) (before after : Ground) → All (IsReadyClause scope) clauses → IsOver scope before
-      → ground_lines offset number clauses before ≡ Ok (done, after) → AreLined before after clauses
-  clauses_lined offset number [] done before after ready over e =
-      lined_to before before after [] (gave tt done before after e).ground
-      (record {
-        begins = begins_same before;
-        over = over;
-        says = λ end v env functions l values have. (λ all. (all, All-nil (ClauseHolds env functions)), λ both. both.0);
-      })
-  clauses_lined offset number (clause ∷ clauses) done before after ready over e =
-      let s = came (ground_line (offset + number) number clause before) (λ first. ground_lines offset (number + 1) clauses) done after e in
-      let first = clause_lined (offset + number) number clause s.value before s.mid (All-head (IsReadyClause scope) clause clauses ready) over s.first in
-      let rest = clauses_lined offset (number + 1) clauses done s.mid after (All-tail (IsReadyClause scope) clause clauses ready) first.over s.rest in
-      record {
-        begins = begins_trans before s.mid after first.begins rest.begins;
-        over = rest.over;
-        says = λ end v env functions l values have.
-            let one = first.says end v env functions (later_through s.mid after end rest.begins l) values have in
-            let more = rest.says end v env functions l values have in
-            let Holds = ClauseHolds env functions in (
-              λ all. let m = more.0 all in let o = one.0 m.0 in (o.0, All-cons Holds clause clauses (All-head Holds clause [] o.1) m.1),
-              λ both. more.1 (one.1 (both.0, All-cons Holds clause [] (All-head Holds clause clauses both.1) (All-nil Holds)), All-tail Holds clause clauses both.1),
-            );
-      }

@@ -1,5 +1,5 @@
 -- The literals of atoms, one atom after the other.
-use Rattle.std.proofs.Common.{◌≡◌, ◌<◌, ◌≤◌, ℕ, zero, suc, ◌+◌, true, false, arith, List, [], ◌∷◌, ◌++◌, Bool, length, get_or, drop, Ok, Err, refl, sym, ap, ◌∙◌, append_assoc, append-nil}
+use Rattle.std.proofs.Common.{◌≡◌, ◌<◌, ℕ, ◌+◌, true, false, List, [], ◌++◌, Bool, length, get_or, drop, Ok, Err, refl, sym, ap, ◌∙◌, append_assoc}
 use Rattle.std.proofs.lemmas.List.{drop_more}
 use Rattle.hp_num.specs.Wide.{◌>>=◌}
 use Rattle.hp_tree.specs.declared.problem.Atom.{Atom}
@@ -8,16 +8,10 @@ use Rattle.hp_lit.specs.declared.refusal.Refusal.{Refusal}
 use Rattle.hp_lit.specs.declared.refusal.Refusal.TheVariants.{Wide, Memory}
 use Rattle.hp_linear.specs.Answers.{Answers, Pushed}
 use Rattle.hp_linear.specs.Steps.{Refusable, behind}
-use Rattle.hp_linear.proofs.Refusals.{behind_behind, behind_nothing}
+use Rattle.hp_linear.proofs.Refusals.{behind_behind}
 use Rattle.hp_defs.specs.Names.{NameList}
 use Rattle.hp_norm.specs.Answers.{Added}
 use Rattle.hp_norm.specs.Lines.{atom_literals, atoms_literals, flat_literals}
-
-pub drop_end : {X : Type 0} (xs : List X) (i : ℕ) → length xs ≤ i → drop i xs ≡ []
-drop_end [] zero h = refl
-drop_end [] (suc i) h = refl
-drop_end (x ∷ xs) zero h = absurd (omega arith)
-drop_end (x ∷ xs) (suc i) h = drop_end xs i (omega arith)
 
 -- the literals of the first atoms
 pub record AtomsSoFar (names : NameList) (positive : Bool) (atoms : List Atom) (i : ℕ) (old lits : List Lit) : Type 0 where
@@ -26,9 +20,6 @@ pub record AtomsSoFar (names : NameList) (positive : Bool) (atoms : List Atom) (
   pub rest : atoms_literals names positive atoms ≡ behind more (atoms_literals names positive (drop i atoms))
 
 module _ (names : NameList) (positive : Bool) (atoms : List Atom) (old : List Lit) where
-  pub no_atoms : AtomsSoFar names positive atoms 0 old old
-  no_atoms = record { more = []; added = sym (append-nil old); rest = sym (behind_nothing (atoms_literals names positive atoms)) }
-
   -- the literals of the next atom behind those so far, and then those of the rest
   next_atom : (i : ℕ) (d : Atom) (more : List Lit) (r : Refusable (List Lit)) → i < length atoms → atoms_literals names positive atoms ≡ behind more (atoms_literals names positive (drop i atoms))
       → atom_literals names positive (get_or atoms i d) ≡ r → atoms_literals names positive atoms ≡ behind more (r >>= λ lits. behind lits (atoms_literals names positive (drop (i + 1) atoms)))
@@ -48,13 +39,6 @@ module _ (names : NameList) (positive : Bool) (atoms : List Atom) (old : List Li
       → AtomsSoFar names positive atoms i old lits → Added (atoms_literals names positive atoms) old new (Err refusal)
   atom_refused i d lits new Wide h is so_far = next_atom i d so_far.more (Err Wide) h so_far.rest is.0
   atom_refused i d lits new Memory h is so_far = tt
-
-  pub all_atoms : (i : ℕ) (lits : List Lit) → length atoms ≤ i → AtomsSoFar names positive atoms i old lits → (done : Unit {0}) → Added (atoms_literals names positive atoms) old lits (Ok done)
-  all_atoms i lits h so_far done = (
-    so_far.more,
-    so_far.rest ∙ ap (λ (xs : List Atom). behind so_far.more (atoms_literals names positive xs)) (drop_end atoms i h) ∙ ap (λ (xs : List Lit). Ok xs) (append-nil so_far.more),
-    so_far.added,
-  )
 
 -- ---- a guard and a head
 module _ (names : NameList) (guard head : List Atom) where

@@ -1,5 +1,5 @@
 -- The load of a term: it is at most the weight, parts have no more in indexes, and it stays while names are added.
-use Rattle.std.proofs.Common.{◌≡◌, ℕ, ◌+◌, ◌≤◌, ◌<◌, zero, suc, List, [], ◌∷◌, map, length, get_or, slice_get, Option, Some, None, refl, sym, ap, subst, ◌∙◌, arith, unsigned_abs}
+use Rattle.std.proofs.Common.{◌≡◌, ℕ, ◌+◌, ◌≤◌, ◌<◌, zero, suc, List, [], ◌∷◌, map, length, get_or, slice_get, Option, Some, sym, ap, subst, ◌∙◌, arith, unsigned_abs}
 use Rattle.std.specs.Prelude.{option_and_then, option_map, position}
 use Rattle.std.specs.Str.{bytes_eq}
 use Rattle.std.specs.List.{All, AllZip}
@@ -153,12 +153,6 @@ module _ (scope : Scope) where
   pub own_no_more : (t : Term) → (load scope t).own ≤ weight t
   own_no_more t = let h = load_within t in omega (arith, h)
 
-  arguments_within : (sorts : List Sort) (ts : List Term) → arguments_load sorts (map (load scope) ts) ≤ weights (map weight ts)
-  arguments_within [] [] = omega arith
-  arguments_within (sort ∷ sorts) [] = omega arith
-  arguments_within [] (t ∷ ts) = let own = load_within t in let rest = arguments_within [] ts in omega (arith, own, rest)
-  arguments_within (sort ∷ sorts) (t ∷ ts) = let own = placed_within sort t (load_within t) in let rest = arguments_within sorts ts in omega (arith, own, rest)
-
   atom_within : (atom : Atom) → IsLightAtom atom → IsLightWithin scope atom
   atom_within atom light =
       let left = load_within atom.left in
@@ -173,9 +167,6 @@ module _ (scope : Scope) where
   pub flats_are_light : (atoms flats : List Atom) → All IsLightAtom atoms → AllZip (WeighsNoMore scope) atoms flats → All IsLightAtom flats
   flats_are_light atoms flats light less = light_flats (λ t. (load scope t).own) own_no_more atoms flats light less
 
-pub arguments_light : (names : NameList) (sorts : List Sort) (ts : List Term) → weights (map weight ts) ≤ largest_offset → ArgumentsAreLight names sorts ts
-arguments_light names sorts ts h = let less = arguments_within (term_scope names) sorts ts in omega (arith, h, less)
-
 -- ---- while more is added
 loads_stay : (before after : Ground) → Begins before after → load (term_scope after.names) ≡ load (term_scope before.names)
 loads_stay before after b =
@@ -186,9 +177,6 @@ light_later before after t b h = subst (λ (l : Term → Load). (l t).indexes �
 
 pub own_later : (before after : Ground) (t : Term) (n : ℕ) → Begins before after → n ≤ (load (term_scope after.names) t).own → n ≤ (load (term_scope before.names) t).own
 own_later before after t n b h = subst (λ (l : Term → Load). n ≤ (l t).own) (loads_stay before after b) h
-
-pub arguments_later : (before after : Ground) (sorts : List Sort) (ts : List Term) → Begins before after → ArgumentsAreLight before.names sorts ts → ArgumentsAreLight after.names sorts ts
-arguments_later before after sorts ts b h = subst (λ (l : Term → Load). arguments_load sorts (map l ts) ≤ largest_offset) (sym (loads_stay before after b)) h
 
 pub place_later : (before after : Ground) (place : Sort) (t : Term) → Begins before after → IsLightPlace place (load (term_scope before.names) t) → IsLightPlace place (load (term_scope after.names) t)
 place_later before after place t b h = subst (λ (l : Term → Load). IsLightPlace place (l t)) (sym (loads_stay before after b)) h
@@ -266,9 +254,6 @@ negation_load scope a = ap (load scope) (sym (rolls-Neg a)) ∙ fold-roll-Term L
 negation_weight : (a : Term) → weight (Neg a) ≡ weight a
 negation_weight a = ap weight (sym (rolls-Neg a)) ∙ fold-roll-Term ℕ weight_step (Term-F.Neg a)
 
-pub negation_part : (scope : Scope) (t a : Term) → t ≡ Neg a → HasLightIndexes scope t → HasLightIndexes scope a
-negation_part scope t a e h = let i = ap (λ (l : Load). l.indexes) (ap (load scope) e ∙ negation_load scope a) in omega (arith, h, i)
-
 pub negation_light : (scope : Scope) (t a x : Term) → t ≡ Neg a → weight x ≤ (load scope a).own → weight (Neg x) ≤ (load scope t).own
 negation_light scope t a x e less =
     let own = ap (λ (l : Load). l.own) (ap (load scope) e ∙ negation_load scope a) in
@@ -280,9 +265,6 @@ multiple_load scope q a = ap (load scope) (sym (rolls-Scale q a)) ∙ fold-roll-
 
 multiple_weight : (q : ℚ) (a : Term) → weight (Scale q a) ≡ unsigned_abs q.num + weight a
 multiple_weight q a = ap weight (sym (rolls-Scale q a)) ∙ fold-roll-Term ℕ weight_step (Term-F.Scale q a)
-
-pub multiple_part : (scope : Scope) (q : ℚ) (t a : Term) → t ≡ Scale q a → HasLightIndexes scope t → HasLightIndexes scope a
-multiple_part scope q t a e h = let i = ap (λ (l : Load). l.indexes) (ap (load scope) e ∙ multiple_load scope q a) in omega (arith, h, i)
 
 pub multiple_light : (scope : Scope) (q : ℚ) (t a x : Term) → t ≡ Scale q a → weight x ≤ (load scope a).own → weight (Scale q x) ≤ (load scope t).own
 multiple_light scope q t a x e less =

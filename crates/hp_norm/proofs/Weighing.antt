@@ -1,5 +1,5 @@
 -- How much the terms of a list weigh, as a loop goes over them.
-use Rattle.std.proofs.Common.{◌≡◌, ℕ, zero, suc, ◌+◌, ◌<◌, ◌≤◌, List, [], ◌∷◌, ◌++◌, map, length, drop, get_or, refl, sym, ap, subst, arith, add-one}
+use Rattle.std.proofs.Common.{◌≡◌, ℕ, zero, suc, ◌+◌, ◌<◌, ◌≤◌, List, [], ◌∷◌, ◌++◌, map, length, drop, get_or, sym, ap, subst, arith, add-one}
 use Rattle.hp_tree.specs.declared.term.Term.{Term}
 use Rattle.hp_terms.specs.Weight.{weight, weights}
 

@@ -15,7 +15,6 @@ use Rattle.hp_base.specs.Making.{Maker}
 use Rattle.hp_norm.specs.declared.flat.Flat.{Flat}
 use Rattle.hp_norm.specs.declared.flat.FlatClause.{FlatClause}
 use Rattle.hp_norm.specs.Flat.{flat_of}
-use Rattle.hp_norm.specs.Lines.{named_of}
 
 -- ---- literals
 -- those of a list behind those that are there, or why they are refused
@@ -29,13 +28,6 @@ Added wanted old new (Err refused.Memory) = Unit {0}
 abbrev pub with_declared : ℕ → Decl → NameList → NameList
 with_declared item (Const name sort) names = with_constant names (record { name = name; sort = sort })
 with_declared item (Fun name args result level) names = with_signature names (record { name = name; args = args; result = result; level = level; item = item })
-
--- ---- the ground problem
--- the one that the problem has, or the first limit that it passes
-abbrev pub GroundFound : Problem → Result Ground GroundErr → Type 0
-GroundFound p (Ok g) = named_of p ≡ Ok g
-GroundFound p (Err (ground.Limit l)) = named_of p ≡ Err l
-GroundFound p (Err ground.Memory) = Unit {0}
 
 -- ---- flat clauses
 -- those that are made behind those that are there, or the limit that is passed

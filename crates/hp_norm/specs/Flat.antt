@@ -1,10 +1,11 @@
 -- Flat clauses: clauses with variables whose applications without variables are names; and the ground set and the flat clauses
 -- of a problem.
-use Rattle.std.specs.Prelude.{◌≡◌, ◌↔◌, ℕ, ◌+◌, ◌<◌, ◌^◌, List, [], ◌∷◌, ◌++◌, length, map, Bool, true, false, not, None, Result, Ok, Err}
+use Rattle.std.specs.Prelude.{◌≡◌, ◌↔◌, ℕ, ◌+◌, ◌<◌, ◌^◌, List, [], ◌∷◌, ◌++◌, length, map, Bool, true, false, not, None, Result, Ok}
 use Rattle.std.specs.List.{All, AllZip}
 use Rattle.hp_math.specs.Rational.{ℚ}
 use Rattle.hp_num.specs.Wide.{◌>>=◌}
 use Rattle.hp_tree.specs.declared.limit.Limit.{Limit}
+use Rattle.hp_tree.specs.declared.problem.Var.{Var}
 use Rattle.hp_tree.specs.declared.problem.Clause.{Clause}
 use Rattle.hp_tree.specs.declared.problem.Problem.{Problem}
 use Rattle.hp_tree.specs.Universal.{Universal, clause_at, universal}
@@ -20,12 +21,19 @@ use Rattle.hp_defs.specs.declared.names.Ground.{Ground}
 use Rattle.hp_defs.specs.Names.{NameList, constant_words, sorts}
 use Rattle.hp_base.specs.Making.{Maker, ◌then◌, computed, keep}
 use Rattle.hp_norm.specs.declared.flat.FlatClause.{FlatClause}
-use Rattle.hp_norm.specs.Lines.{constants_of, ground_line, named_of, signatures_from, start}
+use Rattle.hp_norm.specs.Lines.{constants_of, ground_line, signatures_from, start}
 use Rattle.hp_norm.specs.Opening.{opened_atoms}
 use Rattle.hp_norm.specs.Scopes.{clause_scope}
 use Rattle.hp_norm.specs.Sound.{AreTrue, AreValues, IsLater, IsSound}
 use Rattle.hp_norm.specs.Testing.{tested}
-use Rattle.hp_norm.specs.Waiting.{has_variables, is_waiting}
+
+-- ---- variables
+abbrev pub are_some : List Var → Bool
+are_some [] = false
+are_some (var ∷ vars) = true
+
+abbrev pub has_variables : Clause → Bool
+has_variables clause = are_some clause.vars
 
 -- ---- clauses
 -- a clause whose numbers can be formed
@@ -111,12 +119,3 @@ pub record IsFlattened (p : Problem) (flats : List FlatClause) (g : Ground) : Ty
 
 abbrev pub FlatteningSays : Type 0
 FlatteningSays = (p : Problem) (flats : List FlatClause) (g : Ground) → IsFlattenable p → flat_of p ≡ Ok (flats, g) → IsFlattened p flats g
-
--- a ground set without flat clauses, or the limit that was passed
-abbrev pub alone : Result Ground Limit → Result (List FlatClause × Ground) Limit
-alone (Ok g) = Ok ([], g)
-alone (Err l) = Err l
-
--- a problem without variables has no flat clauses, and the ground set or the limit that naming gives
-abbrev pub FlatteningNames : Type 0
-FlatteningNames = (p : Problem) → is_waiting p ≡ false → flat_of p ≡ alone (named_of p)

@@ -5,7 +5,6 @@ pub mod Trees
 pub mod Opening
 pub mod Lines
 pub mod Testing
-pub mod Waiting
 pub mod Flat
 pub mod Answers
 pub mod Sound

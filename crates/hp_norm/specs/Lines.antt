@@ -7,7 +7,6 @@ use Rattle.hp_tree.specs.declared.problem.Atom.{Atom}
 use Rattle.hp_tree.specs.declared.problem.Clause.{Clause}
 use Rattle.hp_tree.specs.declared.problem.Decl.{Decl}
 use Rattle.hp_tree.specs.declared.problem.Decl.TheVariants.{Const, Fun}
-use Rattle.hp_tree.specs.declared.problem.Problem.{Problem}
 use Rattle.hp_terms.specs.Sorting.{sort_of}
 use Rattle.hp_lit.specs.declared.literal.Lit.{Lit}
 use Rattle.hp_lit.specs.declared.line.Line.{Line}
@@ -48,11 +47,6 @@ ground_line item number clause g =
     named_atoms item clause.head mid then λ head.
     flat_line item number guard head
 
--- a line for each clause, the first of which has this number; items are the declarations and then the clauses
-abbrev pub ground_lines : ℕ → ℕ → List Clause → Maker (Unit {0})
-ground_lines before number [] g = Ok (tt, g)
-ground_lines before number (clause ∷ clauses) g = ground_line (before + number) number clause g then λ done. ground_lines before (number + 1) clauses
-
 -- ---- declarations
 abbrev pub constants_of : List Decl → List Constant
 constants_of [] = []
@@ -74,11 +68,3 @@ declared_ground decls = record { names = declared_names decls; lines = [] }
 -- the declared names, where there may be so many
 abbrev pub start : List Decl → Result Ground Limit
 start decls = if nat_lt most_names (length (constants_of decls)) then Err many_names else Ok (declared_ground decls)
-
-abbrev pub ended : Result (Unit {0} × Ground) Limit → Result Ground Limit
-ended (Ok x) = Ok x.1
-ended (Err l) = Err l
-
--- the ground set of the clauses of a problem without variables, or the first limit that is passed
-abbrev pub named_of : Problem → Result Ground Limit
-named_of p = start p.decls >>= λ g. ended (ground_lines (length p.decls) 1 p.clauses g)

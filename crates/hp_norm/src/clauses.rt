@@ -1,11 +1,9 @@
-//! The lines of clauses without variables: the applications of a clause are named first, and then its literals are formed.
+//! The line of a clause without variables: its applications are named first, and then its literals are formed.
 
-ghost use Rattle.std.specs.Prelude.{◌≡◌, ◌+◌, ◌<◌, ◌≤◌, ◌^◌, length};
 ghost use Rattle.std.specs.List.{All};
-ghost use Rattle.hp_tree.specs.Limits.{most_clauses};
 ghost use Rattle.hp_terms.specs.Weight.{IsLightAtom, IsLightClause};
 ghost use Rattle.hp_base.specs.Making.{Begins, Makes};
-ghost use Rattle.hp_norm.specs.Lines.{flat_line, ground_line, ground_lines};
+ghost use Rattle.hp_norm.specs.Lines.{flat_line, ground_line};
 
 use crate::literals::flat_literals;
 use crate::naming::named_atoms;
@@ -14,29 +12,6 @@ use hp_defs::Ground;
 use hp_lit::{GroundErr, Line, Origin};
 use hp_tree::{Atom, Clause};
 use std::alloc::Global;
-
-/// A line for each clause, in their order: the clauses count from 1, and so many items stand before them.
-///
-/// It asks for light clauses: the magnitudes of the numerators of each atom add up to less than 2 * 10^24. The first limit
-/// that is passed is the one that comes; at an error what was there before still is.
-pub fn ground_lines(
-    alloc: Global,
-    ground: &mut Ground,
-    before: u32,
-    clauses: &[Clause],
-) -> Result<(), GroundErr>
-    requires before { before < 2 ^ 28 }
-    requires most { length clauses.now ≤ most_clauses }
-    requires light { All IsLightClause clauses.now }
-    ensures made { Makes (ground_lines before 1 clauses.now) ground.old ground.new result }
-    ensures kept { Begins ground.old ground.new }
-{
-    for (at, clause) in clauses.iter().enumerate() {
-        let number = at as u32 + 1;
-        ground_line(alloc, ground, before + number, number, clause)?;
-    }
-    Ok(())
-}
 
 /// Adds the line of the clause of this number, which is this item.
 #[tactic(auto, using(hp_base::proofs::Making::begins_same, hp_base::proofs::Making::begins_trans, crate::proofs::Loads::flats_are_light))]

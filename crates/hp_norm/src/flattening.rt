@@ -8,15 +8,13 @@ ghost use Rattle.hp_terms.specs.Words.{IsPlain};
 ghost use Rattle.hp_sorts.specs.Faults.{sort_fault};
 ghost use Rattle.hp_base.specs.Making.{Begins, Makes};
 ghost use Rattle.hp_norm.specs.Answers.{FlatFound, MakesMore};
-ghost use Rattle.hp_norm.specs.Flat.{clause_made, clauses_made, flat_clause, tested_clause};
-ghost use Rattle.hp_norm.specs.Waiting.{has_variables};
+ghost use Rattle.hp_norm.specs.Flat.{clause_made, clauses_made, flat_clause, has_variables, tested_clause};
 
 use crate::clauses::ground_line;
 use crate::declared::{count_constants, declared_names};
 use crate::flat::{Flat, FlatClause};
 use crate::opening::opened_atoms;
 use crate::testing::test_clause;
-use crate::waiting::has_variables;
 use hp_base::computed;
 use hp_defs::Ground;
 use hp_lit::{GroundErr, many_names};
@@ -100,6 +98,13 @@ fn add_clause(
     } else {
         ground_line(alloc, ground, item, number, clause)
     }
+}
+
+/// Whether the clause has a variable.
+fn has_variables(clause: &Clause) -> bool
+    ensures { result ≡ has_variables clause.now }
+{
+    clause.vars.len() > 0
 }
 
 /// The flat clause of the clause of this number, which is this item: with the names that its guard and then its head need,

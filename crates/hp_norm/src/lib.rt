@@ -6,7 +6,6 @@ mod clauses;
 mod declared;
 mod flat;
 mod flattening;
-mod grounding;
 mod key;
 mod laws;
 mod literals;
@@ -17,20 +16,15 @@ mod standing;
 mod term_index;
 mod testing;
 mod trees;
-mod waiting;
 
-pub use clauses::ground_lines;
 pub use flat::{Flat, FlatClause};
 pub use flattening::name_clauses;
-pub use grounding::name_ground;
 pub use laws::{
-    atoms_are_named, atoms_make_only, atoms_need_constants_alone, clauses_hold_at_once,
-    clauses_need_constants_alone, definitions_are_found, flattening_names, flattening_says,
-    naming_fits, naming_says,
+    atoms_are_named, atoms_make_only, clauses_hold_at_once, clauses_need_constants_alone,
+    definitions_are_found, flattening_says,
 };
 pub use naming::{named, named_atoms};
 pub use opening::{is_variable, mentions, opened};
 pub use sorting::clause_sort;
 pub use term_index::TermIndex;
 pub use trees::{gather, same_term, same_terms_are_equal};
-pub use waiting::is_waiting;

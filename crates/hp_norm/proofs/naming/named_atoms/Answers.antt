@@ -1,5 +1,5 @@
 use Rattle.std.proofs.Common.{List, ◌+◌, sym, subst, take}
-use Rattle.std.specs.List.{All, AllZip}
+use Rattle.std.specs.List.{AllZip}
 use Rattle.std.proofs.lemmas.List.Elements.{All-get_or, all_zip_more}
 use Rattle.hp_tree.specs.declared.problem.Atom.{Atom}
 use Rattle.hp_base.proofs.Each.{item_next, under_start, under_more, under_err}
