@@ -70,7 +70,7 @@ module _ (item : ℕ) where
   step_few (Term-F.Neg a) = one_few Neg a
   step_few (Term-F.Scale q a) = one_few (Scale q) a
 
-  term_few : (term : Term) → StaysFew (named item term)
+  pub term_few : (term : Term) → StaysFew (named item term)
   term_few term = by_layers Holds (λ y. subst (λ (m : Maker Term). StaysFew m) (sym (fold-roll-Term (Maker Term) (name_step item) (bare Holds y))) (step_few y)) term
 
   -- ---- atoms

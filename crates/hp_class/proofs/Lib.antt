@@ -1,7 +1,6 @@
 pub mod Points
 pub mod Turns
 pub mod Places
-pub mod Walking
 pub mod Pairing
 pub mod Stays
 pub mod Adding
@@ -21,3 +20,6 @@ pub mod FewLines
 pub mod OnlyLines
 pub mod Passing
 pub mod Whole
+pub mod Inside
+pub mod GroupsMade
+pub mod GroupsModelled

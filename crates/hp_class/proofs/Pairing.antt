@@ -11,12 +11,13 @@ use Rattle.hp_lit.specs.declared.refusal.GroundErr.{GroundErr}
 use Rattle.hp_defs.specs.declared.names.Ground.{Ground}
 use Rattle.hp_defs.specs.declared.names.Signature.{Signature}
 use Rattle.hp_defs.specs.Names.{NameList}
+use Rattle.hp_defs.specs.Places.{places}
 use Rattle.hp_base.specs.Making.{Begins, Maker, Makes, ◌then◌, in_turn}
 use Rattle.hp_base.specs.Congruence.{Point, congruence_at, congruence_between, congruence_of, point_of}
 use Rattle.hp_base.proofs.CongruentLine.{congruence_is_added}
 use Rattle.hp_base.proofs.Making.{begins_same, begins_trans, makes_other, makes_same_err, makes_stopped}
 use Rattle.hp_base.proofs.Places.{congruence_there}
-use Rattle.hp_class.specs.Places.{line_at, places, point_at, points_at}
+use Rattle.hp_class.specs.Places.{line_at, point_at, points_at}
 use Rattle.hp_class.specs.Points.{function_lines, pair_line, pairs, signature_lines}
 use Rattle.hp_class.proofs.Places.{got_one, over, places_inside, points_there}
 

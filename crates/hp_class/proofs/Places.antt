@@ -6,9 +6,10 @@ use Rattle.std.proofs.lemmas.List.Elements.{All-append, All-cons, All-map, All-n
 use Rattle.hp_lit.specs.declared.line.Body.{Body}
 use Rattle.hp_lit.specs.declared.line.Body.TheVariants.{Apply, Sum}
 use Rattle.hp_lit.specs.declared.line.Def.{Def}
+use Rattle.hp_defs.specs.Places.{body_place, places}
 use Rattle.hp_base.specs.Congruence.{body_args}
 use Rattle.hp_class.specs.Points.{body_point, points}
-use Rattle.hp_class.specs.Places.{body_place, places, point_at, points_at}
+use Rattle.hp_class.specs.Places.{point_at, points_at}
 
 -- ---- lists
 pub over : {A : Type 0} (xs : List A) (i : ℕ) → length xs ≤ i → drop i xs ≡ []

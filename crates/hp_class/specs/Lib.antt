@@ -6,3 +6,4 @@ pub mod Frame
 pub mod Law
 pub mod Laws
 pub mod Answers
+pub mod Groups

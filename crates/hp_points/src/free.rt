@@ -1,5 +1,6 @@
 //! Free functions: those that no clause with variables speaks of. Their points are rows, and elsewhere they are 0.
-ghost use Rattle.std.specs.Prelude.{◌≡◌, ◌<◌, [], ◌∷◌, ◌++◌, IfOk, length};
+ghost use Rattle.std.specs.Prelude.{◌≡◌, ◌<◌, [], ◌∷◌, ◌++◌, IfOk, length, Some, slice_get};
+ghost use Rattle.hp_defs.specs.declared.names.Signature.{Signature};
 ghost use Rattle.std.specs.List.{All};
 ghost use Rattle.hp_class.specs.Small.{HasFewArguments};
 ghost use Rattle.hp_base.specs.Making.{keep};
@@ -25,12 +26,15 @@ pub struct Free {
 }
 
 impl Free {
+    ghost use Rattle.hp_points.specs.Made.{free_at};
+
     /// The class of the function at a place in the order of declarations, counted from 0. `Err` says that memory was
     /// wanting.
     pub fn new(alloc: Global, names: &Names, func: u32) -> Result<Free, AllocError>
         requires known { func < length names.now.signatures }
         requires few { All HasFewArguments names.now.signatures }
-        ensures { IfOk result (λ c. ⟦<Free as LocalClass>⟧.IsLent c names.now) }
+        ensures made { (s : Signature) → slice_get names.now.signatures func ≡ Some s → IfOk result (λ c. c ≡ free_at func s) }
+        ensures lent { IfOk result (λ c. ⟦<Free as LocalClass>⟧.IsLent c names.now) }
     {
         let signature = names.signature(func);
         let mut own = List::new(alloc);

@@ -36,6 +36,8 @@ pub struct Monotone {
 }
 
 impl Monotone {
+    ghost use Rattle.hp_points.specs.Made.{monotone_at};
+
     /// The class of the function at a place in the order of declarations, counted from 0, with its clause and the form of
     /// that. `Err` says that memory was wanting.
     pub fn new(
@@ -47,7 +49,8 @@ impl Monotone {
     ) -> Result<Monotone, AllocError>
         requires known { (s : Signature) × (slice_get names.now.signatures func ≡ Some s) × (s.args ≡ Num ∷ []) × (s.result ≡ Num) × (form_of s.name clause.vars clause.guard clause.head ≡ Some form) }
         requires flat { IsFlat names.now clause }
-        ensures { IfOk result (λ c. ⟦<Monotone as LocalClass>⟧.IsLent c names.now) }
+        ensures made { (s : Signature) → slice_get names.now.signatures func ≡ Some s → IfOk result (λ c. c ≡ monotone_at func s clause form) }
+        ensures lent { IfOk result (λ c. ⟦<Monotone as LocalClass>⟧.IsLent c names.now) }
     {
         let signature = names.signature(func);
         let mut own = List::new(alloc);

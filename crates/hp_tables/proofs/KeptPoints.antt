@@ -1,5 +1,5 @@
 -- A further point is kept where none has its arguments, and the points of applications one by one.
-use Rattle.std.proofs.Common.{◌≡◌, ℕ, zero, suc, ◌+◌, ◌<◌, ◌≤◌, List, [], ◌∷◌, ◌++◌, true, map, length, take, get_or, pos, Some, None, slice_get, refl, sym, ap, subst, ◌∙◌, append_assoc, add-one, if◌then◌else◌}
+use Rattle.std.proofs.Common.{◌≡◌, ℕ, zero, suc, ◌+◌, ◌<◌, ◌≤◌, List, [], ◌∷◌, ◌++◌, true, map, length, take, get_or, pos, Some, None, slice_get, refl, sym, ap, subst, ◌∙◌, append_assoc, add-one, arith, if◌then◌else◌}
 use Rattle.std.specs.Bool.{Decides}
 use Rattle.std.proofs.lemmas.Bool.{or_left, or_right}
 use Rattle.std.proofs.lemmas.List.{map-append, take_all}
@@ -20,7 +20,6 @@ use Rattle.hp_local.proofs.Points.{same_values-Decides}
 use Rattle.hp_tables.specs.declared.index.Coordinate.{Coordinate}
 use Rattle.hp_tables.specs.Kept.{AreKept, coordinate, fact_coordinates}
 use Rattle.hp_class.specs.Frame.{fact_of}
-use Rattle.hp_class.proofs.Walking.{take_next}
 use Rattle.hp_class.specs.Places.{point_at, points_at}
 
 -- ---- values by their parts
@@ -86,6 +85,12 @@ kept_added facts index more rows longer k a f e d =
 
 pub with_row : {A : Type 0} (xs : List A) (x y : A) → x ≡ y → xs ++ x ∷ [] ≡ xs ++ y ∷ []
 with_row xs x y e = ap (λ z. xs ++ z ∷ []) e
+
+-- ---- lists
+take_next : {A : Type 0} (xs : List A) (i : ℕ) (x d : A) → i < length xs → x ≡ get_or xs i d → take (suc i) xs ≡ take i xs ++ x ∷ []
+take_next [] i x d h e = absurd (omega arith)
+take_next (y ∷ xs) zero x d h e = ap (λ z. z ∷ []) (sym e)
+take_next (y ∷ xs) (suc i) x d h e = ap (λ zs. y ∷ zs) (take_next xs i x d (omega arith) e)
 
 -- ---- applications at places
 points_both : (ds : List Def) (ks ls : List ℕ) → points_at ds (ks ++ ls) ≡ points_at ds ks ++ points_at ds ls

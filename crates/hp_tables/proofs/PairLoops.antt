@@ -20,7 +20,8 @@ use Rattle.hp_norm.specs.declared.flat.FlatClause.{FlatClause}
 use Rattle.hp_norm.specs.Sound.{IsSound}
 use Rattle.hp_instance.specs.Instances.{instance}
 use Rattle.hp_class.specs.Group.{plan_lines}
-use Rattle.hp_class.specs.Places.{places, point_at, points_at}
+use Rattle.hp_defs.specs.Places.{places}
+use Rattle.hp_class.specs.Places.{point_at, points_at}
 use Rattle.hp_class.specs.Points.{points}
 use Rattle.hp_class.proofs.Places.{got_one, over, points_there}
 use Rattle.hp_tables.specs.Pairs.{lines_below, ordered_from, ordered_pairs, pair_at, pair_between, pair_instance, pair_tuple, pairs_below, pairs_plan, with_others}

@@ -20,7 +20,8 @@ use Rattle.hp_norm.specs.Flat.{IsFlat}
 use Rattle.hp_instance.specs.Instances.{instance}
 use Rattle.hp_instance.specs.Laws.{TupleFits}
 use Rattle.hp_instance.proofs.InstancesSay.{instances_say}
-use Rattle.hp_class.specs.Places.{places, point_at, points_at}
+use Rattle.hp_defs.specs.Places.{places}
+use Rattle.hp_class.specs.Places.{point_at, points_at}
 use Rattle.hp_class.specs.Points.{points}
 use Rattle.hp_class.proofs.Places.{points_there}
 use Rattle.hp_class.proofs.Stays.{tuple_stays}

@@ -3,7 +3,6 @@
 
 mod index;
 mod pairs;
-mod places;
 mod steps;
 mod tables;
 mod values;

@@ -10,7 +10,6 @@ ghost use Rattle.hp_class.specs.Places.{points_at};
 ghost use Rattle.hp_class.specs.Points.{points};
 ghost use Rattle.hp_tables.specs.Pairs.{PairsFit, first_arg, lines_below, pair_args, pair_at, pairs_plan};
 
-use crate::places::places_of;
 use hp_defs::Ground;
 use hp_instance::instantiate;
 use hp_lit::{Arg, Body, GroundErr};
@@ -34,13 +33,14 @@ pub fn add_pair_lines(
     clause: &FlatClause,
     first_lower: bool,
 ) -> Result<(), GroundErr>
+    requires known { func < length g.old.names.signatures }
     requires sound { IsSound g.old }
     requires flat { IsFlat g.old.names clause.now }
     requires fit { PairsFit g.old.names clause.now first_lower (points func g.old.names.definitions) }
     ensures made { Makes (plan_lines (pairs_plan func first_lower clause.now g.old.names)) g.old g.new result }
     ensures kept { Begins g.old g.new }
 {
-    let places = places_of(alloc, g.names.definitions(), func)?;
+    let places = List::from_slice(alloc, g.names.of_function(func))?;
     let places = places.as_slice();
     for lower in places {
         add_lines_below(alloc, g, clause, first_lower, *lower, places)?;

@@ -15,7 +15,6 @@ ghost use Rattle.hp_class.specs.Frame.{fact_of, facts_of};
 ghost use Rattle.hp_class.specs.Small.{AreSmallIdx, HasSmallSums};
 
 use crate::index::{PointIndex, coordinates};
-use crate::places::places_of;
 use crate::values::{arg_values, args_of, name_value};
 use hp_defs::Names;
 use hp_lit::Def;
@@ -64,14 +63,14 @@ pub fn free_table(
     names: &Names,
     values: &[Frac],
 ) -> Result<Table, AllocError>
+    requires known { func < length names.now.signatures }
     requires fit { IsFitNames names.now }
     requires sorted { HaveSorts (sorts names.now) values.now }
     requires small { AreSmallIdx (sorts names.now) values.now }
     ensures { IfOk result (λ made. made ≡ free_table word.now args (facts_of func word.now names.now values.now)) }
 {
-    let definitions = names.definitions();
-    let places = places_of(alloc, definitions, func)?;
-    table(alloc, word, args, definitions, places.as_slice(), values)
+    let places = names.of_function(func);
+    table(alloc, word, args, names.definitions(), places, values)
 }
 
 /// Adds the row of an application where none has its arguments.

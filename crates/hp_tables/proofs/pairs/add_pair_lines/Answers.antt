@@ -1,10 +1,10 @@
-use Rattle.std.proofs.Common.{◌≡◌, ◌∙◌, List, ap, refl, sym}
-use Rattle.hp_lit.specs.declared.line.Def.{Def}
+use Rattle.std.proofs.Common.{◌≡◌, ◌∙◌, refl, sym}
 use Rattle.hp_defs.specs.declared.names.Ground.{Ground}
 use Rattle.hp_base.specs.Making.{in_turn}
 use Rattle.hp_base.proofs.Making.{begins_names, begins_same, makes_other}
 use Rattle.hp_class.specs.Group.{plan_lines}
-use Rattle.hp_class.specs.Places.{places, points_at}
+use Rattle.hp_defs.specs.Places.{places}
+use Rattle.hp_class.specs.Places.{points_at}
 use Rattle.hp_class.proofs.Stays.{flat_stays}
 use Rattle.hp_tables.specs.Pairs.{ordered_pairs, pair_instance, pairs_plan}
 use Rattle.hp_tables.proofs.InOrder.{all_inside}
@@ -30,7 +30,7 @@ add_lines_below-requires-clause-inside c =
     let ks = c.as_slice-places.result.now in
     let t = c.loop-lower.invariant in
     let is : ks ≡ places c.args.func g.names.definitions =
-    c.as_slice-places.ensures ∙ c.in_ok-places.ensures ∙ ap (λ (ds : List Def). places c.args.func ds) c.definitions.ensures.definitions in
+    c.as_slice-places.ensures ∙ c.in_ok-places.ensures ∙ c.of_function.ensures in
     let inside = all_inside c.args.func g.names.definitions g.names.definitions ks refl is in
     inside_still g c.loop-lower.g ks t.begins inside
 
@@ -41,7 +41,7 @@ add_lines_below-requires-clause-fit c =
     let ks = c.as_slice-places.result.now in
     let t = c.loop-lower.invariant in
     let is : ks ≡ places c.args.func g.names.definitions =
-    c.as_slice-places.ensures ∙ c.in_ok-places.ensures ∙ ap (λ (ds : List Def). places c.args.func ds) c.definitions.ensures.definitions in
+    c.as_slice-places.ensures ∙ c.in_ok-places.ensures ∙ c.of_function.ensures in
     let inside = all_inside c.args.func g.names.definitions g.names.definitions ks refl is in
     fit_still g c.loop-lower.g clause c.args.first_lower ks t.begins t.sound.made c.requires.flat inside (function_fit c.args.func g clause c.args.first_lower ks is c.requires.fit)
 
@@ -52,7 +52,7 @@ returns-in_err-add_lines_below-clause-made c =
     let ks = c.as_slice-places.result.now in
     let t = c.loop-lower.invariant in
     let is : ks ≡ places c.args.func g.names.definitions =
-    c.as_slice-places.ensures ∙ c.in_ok-places.ensures ∙ ap (λ (ds : List Def). places c.args.func ds) c.definitions.ensures.definitions in
+    c.as_slice-places.ensures ∙ c.in_ok-places.ensures ∙ c.of_function.ensures in
     let inside = all_inside c.args.func g.names.definitions g.names.definitions ks refl is in
     let all = λ (h : Ground). in_turn (pair_instance clause c.args.first_lower) (ordered_pairs (points_at h.names.definitions ks)) h in
     let result = c.from_residual-in_err-add_lines_below.result in
@@ -67,7 +67,7 @@ loop-lower-preserved c =
     let ks = c.as_slice-places.result.now in
     let t = c.loop-lower.invariant in
     let is : ks ≡ places c.args.func g.names.definitions =
-    c.as_slice-places.ensures ∙ c.in_ok-places.ensures ∙ ap (λ (ds : List Def). places c.args.func ds) c.definitions.ensures.definitions in
+    c.as_slice-places.ensures ∙ c.in_ok-places.ensures ∙ c.of_function.ensures in
     let inside = all_inside c.args.func g.names.definitions g.names.definitions ks refl is in
     planned_more clause c.args.first_lower ks c.loop-lower.lower-index c.loop-lower-test.true g c.loop-lower.g inside t c.add_lines_below.new.g
     c.in_ok-add_lines_below.ensures.made c.add_lines_below.ensures.kept c.in_ok-add_lines_below.ensures.sound
@@ -79,6 +79,6 @@ returns-clause-made c =
     let ks = c.as_slice-places.result.now in
     let t = c.loop-lower.invariant in
     let is : ks ≡ places c.args.func g.names.definitions =
-    c.as_slice-places.ensures ∙ c.in_ok-places.ensures ∙ ap (λ (ds : List Def). places c.args.func ds) c.definitions.ensures.definitions in
+    c.as_slice-places.ensures ∙ c.in_ok-places.ensures ∙ c.of_function.ensures in
     let inside = all_inside c.args.func g.names.definitions g.names.definitions ks refl is in
     sym (plan_is clause c.args.first_lower c.args.func ks g is) ∙ planned_end clause c.args.first_lower ks c.loop-lower.lower-index g c.loop-lower.g c.loop-lower-test.false t

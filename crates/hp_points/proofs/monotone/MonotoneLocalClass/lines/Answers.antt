@@ -1,9 +1,13 @@
 use Rattle.std.proofs.Common.{◌<◌, ◌∙◌, List, ap, length, slice_get, subst, sym}
 use Rattle.std.specs.List.{All}
+use Rattle.std.proofs.lemmas.Option.{slice_get_within}
 use Rattle.hp_defs.specs.declared.names.Signature.{Signature}
 use Rattle.hp_tables.proofs.ClassLaws.{own_known}
 use Rattle.hp_tables.proofs.Fits.{monotone_pairs_fit}
 use Rattle.hp_points.proofs.monotone.MonotoneLocalClass.lines.Goals as goal
+
+pub add_pair_lines-requires-clause-known : goal.add_pair_lines-requires-clause-known
+add_pair_lines-requires-clause-known c = let lent = c.requires.lent in slice_get_within c.args.g.now.names.signatures c.args.self.now.func lent.signature lent.known
 
 pub add_pair_lines-requires-clause-fit : goal.add_pair_lines-requires-clause-fit
 add_pair_lines-requires-clause-fit c =

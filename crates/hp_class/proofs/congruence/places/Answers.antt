@@ -1,7 +1,0 @@
-use Rattle.hp_class.proofs.Walking.{places_step}
-use Rattle.hp_class.proofs.congruence.places.Goals as goal
-
-pub loop-at-preserved : goal.loop-at-preserved
-loop-at-preserved c =
-    places_step c.args.func c.loop-at.at c.args.definitions.now c.index-definitions-at.result c.loop-at.places c.add_place.new.places
-    c.loop-at-test.true c.index-definitions-at.is c.loop-at.invariant c.in_ok-add_place.ensures

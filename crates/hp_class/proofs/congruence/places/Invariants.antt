@@ -1,6 +1,0 @@
-use Rattle.std.proofs.Common.{◌≡◌, take}
-use Rattle.hp_class.specs.Places.{places}
-use Rattle.hp_class.proofs.congruence.places.Given as goal
-
-abbrev pub invariant-loop-at : goal.invariant-loop-at
-invariant-loop-at l = l.places ≡ places l.func (take l.at l.definitions)
