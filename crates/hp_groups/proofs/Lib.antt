@@ -1,0 +1,4 @@
+pub mod Owners
+pub mod Taken
+pub mod Grouping
+pub mod Classes

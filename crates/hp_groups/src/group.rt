@@ -1,0 +1,95 @@
+//! A group of any class.
+ghost use Rattle.hp_groups.specs.declared.group.Group.TheVariants.{Free, Monotone};
+ghost use Rattle.hp_points.specs.contracts.free.FreeLocalClass.TheImpl.Laws as free_laws;
+ghost use Rattle.hp_points.specs.contracts.monotone.MonotoneLocalClass.TheImpl.Laws as monotone_laws;
+
+use hp_class::{LocalClass, Slope};
+use hp_defs::{Ground, Names};
+use hp_lit::GroundErr;
+use hp_model::Table;
+use hp_num::{Frac, List};
+use hp_points::{Free, Monotone};
+use std::alloc::{AllocError, Global};
+
+/// Functions that are given together, by their class.
+#[derive(Drop)]
+pub enum Group {
+    Free(Free),
+    Monotone(Monotone),
+}
+
+impl LocalClass for Group {
+    ghost own = { elim [ Free c ↦ ⟦<Free as LocalClass>⟧.own c | Monotone c ↦ ⟦<Monotone as LocalClass>⟧.own c ] };
+
+    ghost applied = { elim [ Free c ↦ ⟦<Free as LocalClass>⟧.applied c | Monotone c ↦ ⟦<Monotone as LocalClass>⟧.applied c ] };
+
+    ghost clauses = { elim [ Free c ↦ ⟦<Free as LocalClass>⟧.clauses c | Monotone c ↦ ⟦<Monotone as LocalClass>⟧.clauses c ] };
+
+    ghost IsLent = { elim [ Free c ↦ ⟦<Free as LocalClass>⟧.IsLent c | Monotone c ↦ ⟦<Monotone as LocalClass>⟧.IsLent c ] };
+
+    ghost grow_of = { elim [ Free c ↦ ⟦<Free as LocalClass>⟧.grow_of c | Monotone c ↦ ⟦<Monotone as LocalClass>⟧.grow_of c ] };
+
+    ghost plan_of = { elim [ Free c ↦ ⟦<Free as LocalClass>⟧.plan_of c | Monotone c ↦ ⟦<Monotone as LocalClass>⟧.plan_of c ] };
+
+    ghost Ready = { elim [ Free c ↦ ⟦<Free as LocalClass>⟧.Ready c | Monotone c ↦ ⟦<Monotone as LocalClass>⟧.Ready c ] };
+
+    ghost tables_of = { elim [ Free c ↦ ⟦<Free as LocalClass>⟧.tables_of c | Monotone c ↦ ⟦<Monotone as LocalClass>⟧.tables_of c ] };
+
+    fn own(&self) -> &List<u32> {
+        match self {
+            Group::Free(c) => c.own(),
+            Group::Monotone(c) => c.own(),
+        }
+    }
+
+    fn grow(&self, alloc: Global, g: &mut Ground) -> Result<(), GroundErr> {
+        match self {
+            Group::Free(c) => c.grow(alloc, g),
+            Group::Monotone(c) => c.grow(alloc, g),
+        }
+    }
+
+    fn lines(&self, alloc: Global, g: &mut Ground) -> Result<(), GroundErr> {
+        match self {
+            Group::Free(c) => c.lines(alloc, g),
+            Group::Monotone(c) => c.lines(alloc, g),
+        }
+    }
+
+    fn tables(
+        &self,
+        alloc: Global,
+        size: u32,
+        names: &Names,
+        values: &[Frac],
+    ) -> Result<List<Table>, AllocError> {
+        match self {
+            Group::Free(c) => c.tables(alloc, size, names, values),
+            Group::Monotone(c) => c.tables(alloc, size, names, values),
+        }
+    }
+
+    fn ready(
+        &self,
+        alloc: Global,
+        names: &Names,
+        values: &[Frac],
+    ) -> Result<Option<Slope>, AllocError> {
+        match self {
+            Group::Free(c) => c.ready(alloc, names, values),
+            Group::Monotone(c) => c.ready(alloc, names, values),
+        }
+    }
+
+    ghost stays_lent = { elim [ Free c ↦ free_laws.stays_lent-law c | Monotone c ↦ monotone_laws.stays_lent-law c ] };
+
+    ghost grows = { elim [ Free c ↦ free_laws.grows-law c | Monotone c ↦ monotone_laws.grows-law c ] };
+
+    ghost plan_fits = { elim [ Free c ↦ free_laws.plan_fits-law c | Monotone c ↦ monotone_laws.plan_fits-law c ] };
+
+    ghost applies = { elim [ Free c ↦ free_laws.applies-law c | Monotone c ↦ monotone_laws.applies-law c ] };
+
+    ghost completes = { elim [ Free c ↦ free_laws.completes-law c | Monotone c ↦ monotone_laws.completes-law c ] };
+
+    ghost fitting = { elim [ Free c ↦ free_laws.fitting-law c | Monotone c ↦ monotone_laws.fitting-law c ] };
+}
