@@ -127,6 +127,24 @@ def applications(count):
     return [f"const {names}: num;", "fun f(num): num level 1;"] + values
 
 
+def rising(count, gap):
+    """A rising function at constants in a row, with values that rise, or, where there is a gap, one that falls behind."""
+    names = [f"c{n}" for n in range(count)]
+    lines = [f"const {', '.join(names)}: num;", "fun f(num): num level 1;", "clause [x:num, y:num] x <= y -> f(x) <= f(y);"]
+    lines += [f"query {left} < {right};" for left, right in zip(names, names[1:])]
+    lines += [f"query f({name}) = {n};" for n, name in enumerate(names[:-1])]
+    lines += [f"query f({names[-1]}) = {count - 1 - gap};"]
+    return lines
+
+
+def turned(count):
+    """A rising function with rising values at constants, of which the last is below the first; nothing else orders them."""
+    names = [f"c{n}" for n in range(count)]
+    lines = [f"const {', '.join(names)}: num;", "fun f(num): num level 1;", "clause [x:num, y:num] x <= y -> f(x) <= f(y);"]
+    lines += [f"query f({name}) = {n};" for n, name in enumerate(names)]
+    return lines + [f"query {names[-1]} < {names[0]};"]
+
+
 def function_chain(count):
     """Each constant is a function of the one before, the first two are equal, and the last is another."""
     names = ", ".join(f"c{at}" for at in range(count + 1))
@@ -170,6 +188,11 @@ def main():
     for count in (10, 15, 50, 100, 300):
         write(f"function-chain-{count}.hp", function_chain(count))
     write("function-choice-300.hp", function_choice(300))
+    for count in (10, 20, 40, 180):
+        write(f"rising-{count}.hp", rising(count, 0))
+        write(f"rising-{count}-late.hp", rising(count, 2))
+    for count in (10, 20):
+        write(f"turned-{count}.hp", turned(count))
     for jobs in (4, 5, 6, 7):
         write(f"machine-{jobs}-fits.hp", one_machine(rng, jobs, 0))
         write(f"machine-{jobs}-late.hp", one_machine(rng, jobs, -1))

@@ -1,36 +1,37 @@
 -- A structure that satisfies a problem gives values of the names at which all lines of the ground set are true.
-use Rattle.std.proofs.Common.{◌≡◌, ◌&&◌, ℕ, IsTrue, pos, List, [], ◌∷◌, length, map, Result, Ok, Err, refl, sym, subst, suc}
+use Rattle.std.proofs.Common.{◌≡◌, ◌∙◌, ◌&&◌, ℕ, IsTrue, pos, List, [], ◌∷◌, length, map, refl, suc}
 use Rattle.std.proofs.lemmas.Bool.{and_parts}
 use Rattle.hp_math.specs.Rational.{ℚ, is_whole, le_ℚ, lt_ℚ, whole}
 use Rattle.hp_math.proofs.Laws.{tests_decide}
-use Rattle.hp_num.specs.Wide.{◌>>=◌}
-use Rattle.hp_tree.specs.declared.limit.Limit.{Limit}
 use Rattle.hp_tree.specs.declared.problem.Sort.{Sort}
 use Rattle.hp_tree.specs.declared.problem.Sort.TheVariants.{Num, Idx, Ptr}
-use Rattle.hp_tree.specs.declared.problem.Problem.{Problem}
 use Rattle.hp_tree.specs.Sorted.{is_of_sort}
+use Rattle.hp_tree.specs.Universal.{HoldsAll}
 use Rattle.hp_lit.specs.Sorts.{AreOfSorts, HaveSorts, IsOfSort}
 use Rattle.hp_lit.specs.Truth.{Values, name_value}
 use Rattle.hp_sorts.proofs.Faultless.{faultless_problems_are_well_sorted}
-use Rattle.hp_defs.specs.declared.names.Ground.{Ground}
-use Rattle.hp_defs.specs.Names.{NameList, sorts, words}
+use Rattle.hp_defs.specs.Names.{sorts, words}
 use Rattle.hp_defs.proofs.Distinct.{words_are_distinct}
-use Rattle.hp_model.specs.declared.structure.Structure.{Structure}
-use Rattle.hp_model.specs.Satisfies.{Satisfies}
-use Rattle.hp_model.specs.Value.{entry_value, functions_of}
-use Rattle.hp_base.specs.Making.{in_turn}
-use Rattle.hp_norm.specs.Laws.{IsNameable}
-use Rattle.hp_norm.specs.Lines.{ended, named_of}
-use Rattle.hp_chain.specs.Ground.{function_lines}
-use Rattle.hp_chain.specs.Laws.{AreTrueLines, StructuresGiveValues}
+use Rattle.hp_base.proofs.Making.{begins_same}
+use Rattle.hp_model.specs.Value.{constant, entry_value, functions_of}
+use Rattle.hp_norm.specs.declared.flat.FlatClause.{FlatClause}
+use Rattle.hp_norm.specs.Flat.{universal_of}
+use Rattle.hp_norm.specs.Sound.{AreValues, IsLater}
+use Rattle.hp_norm.proofs.ConstantsAlone.{clauses_need_constants_alone}
+use Rattle.hp_norm.proofs.HoldsAtOnce.{clauses_hold_at_once}
+use Rattle.hp_class.specs.Frame.{environment}
+use Rattle.hp_class.specs.Groups.{AreInside}
+use Rattle.hp_class.proofs.GroupsMade.{groups_are_sound, groups_keep_truth}
+use Rattle.hp_class.proofs.Through.{words_agree}
+use Rattle.hp_groups.specs.declared.group.Group.{Group}
+use Rattle.hp_groups.specs.contracts.group.GroupLocalClass.TheImpl.{ghosts}
+use Rattle.hp_chain.specs.Ground.{chain_of}
+use Rattle.hp_chain.specs.Laws.{StructuresGiveValues}
 use Rattle.hp_chain.specs.Order.{function_order}
-use Rattle.hp_norm.proofs.ProblemsNamed.{naming_fits, naming_says}
-use Rattle.hp_chain.proofs.StructuresCongruent.{lines_stay_true}
+use Rattle.hp_chain.proofs.StructuresClauses.{flat_clauses_hold, lines_are_true, of_groups}
 use Rattle.hp_chain.proofs.StructuresFilled.{extended}
 use Rattle.hp_chain.proofs.StructuresWords.{functions_keep, given_again, given_count, given_inside}
-use Rattle.hp_chain.proofs.ValuesSorts.{AreInside}
-use Rattle.hp_chain.proofs.ValuesClauses.{clauses_hold}
-use Rattle.hp_chain.proofs.ValuesWords.{environment, words_agree}
+use Rattle.hp_chain.proofs.ValuesDescended.{descended, flattened}
 
 -- ---- sorts
 -- a value in a universe of so many pointers
@@ -52,34 +53,36 @@ all_of_sorts (s ∷ ss) [] count have = absurd (cc)
 all_of_sorts (s ∷ ss) (x ∷ xs) count have = (have 0 s refl, all_of_sorts ss xs (let same : length xs ≡ length ss = cc in same) (λ n t e. have (suc n) t e))
 
 -- ---- the law
-of_names : (p : Problem) (h g : Ground) (s : Structure) → IsNameable p → named_of p ≡ Ok h → ended (in_turn function_lines (function_order p.decls) h) ≡ Ok g → Satisfies s p
-    → (v : Values) × AreTrueLines g v
-of_names p h g s nameable named rest satisfied =
-    let made_of = naming_fits p h nameable named in
-    let made = made_of.made in
-    let names = h.names in
+pub structures_give_values : StructuresGiveValues
+structures_give_values p g is s satisfied =
+    let base = is.base in
+    let said = flattened p g is in
+    let down = descended p g is in
+    let made = groups_are_sound Group ghosts.grow_of ghosts.own ghosts.applied ghosts.clauses ghosts.plan_of ghosts.IsLent (chain_of p is.flats base) base g down in
+    let names = g.names in
+    let size = s.universe in
+    let functions = functions_of s in
     let well = satisfied.well_formed in
-    let sorted = faultless_problems_are_well_sorted p nameable.sorted in
-    let keep = functions_keep s p well names made_of.constants made_of.signatures sorted.levels made.functions in
-    let last = extended s.universe well.universe (functions_of s) names made_of.names keep (map entry_value s.consts)
-    (given_count s p well names made_of.constants made_of.signatures) (given_inside s p well names made_of.constants made_of.signatures) in
+    let constants = made.begins.constants ∙ said.constants in
+    let signatures = made.begins.signatures ∙ said.signatures in
+    let levels = (faultless_problems_are_well_sorted p is.able.sorted).levels in
+    let keep = functions_keep s p well names constants signatures levels made.sound.made.functions in
+    let last = extended size well.universe functions names made.sound.names keep (map entry_value s.consts) (given_count s p well names constants signatures)
+    (given_inside s p well names constants signatures) in
     let v = last.0 in
     let env = environment (words names) v in
-    let have = have_sorts s.universe (sorts names) v last.1.inside in
-    let agree = given_again s p well names made_of.constants made_of.signatures v last.1.begins in
-    let clauses = (clauses_hold p s env agree nameable).0 satisfied.holds in
-    let lines = (naming_says p h v env (functions_of s) nameable named (words_agree (words names) v (words_are_distinct names made)) have last.1.extends).1 clauses in
-    let end = lines_stay_true (functions_of s) names v made made_of.names have last.1.extends (function_order p.decls) h g rest refl lines in (
+    let have = have_sorts size (sorts names) v last.1.inside in
+    let agree = given_again s p well names constants signatures v last.1.begins in
+    let values : AreValues g v env functions = record { agrees = words_agree (words names) v (words_are_distinct names made.sound.made); extends = last.1.extends } in
+    let later : IsLater base g = record { begins = made.begins; made = made.sound.made } in
+    let here : IsLater g g = record { begins = begins_same g; made = made.sound.made } in
+    let flats = flat_clauses_hold size base g v env functions later values clauses_need_constants_alone clauses_hold_at_once p is.flats (constant s.consts) is.able said agree satisfied.holds in
+    let lines = lines_are_true size base g v env functions later values clauses_need_constants_alone clauses_hold_at_once p is.flats (constant s.consts) is.able said agree satisfied.holds have in
+    let groups = of_groups (λ (c : FlatClause). HoldsAll size env functions (universal_of c)) is.flats flats base.names.signatures (function_order p.decls) in (
       v,
       record {
-        sorted = subst (λ (n : NameList). AreOfSorts (sorts n) v) (sym end.0) (all_of_sorts (sorts names) v last.1.count have);
-        lines = end.1;
+        sorted = all_of_sorts (sorts names) v last.1.count have;
+        lines = groups_keep_truth Group ghosts.grow_of ghosts.own ghosts.applied ghosts.clauses ghosts.plan_of ghosts.IsLent (chain_of p is.flats base) base g g size v env functions down here values have
+            well.universe last.1.inside groups lines;
       },
     )
-
-pub structures_give_values : StructuresGiveValues
-structures_give_values p g ground s satisfied = by (named_of p) refl ground.made
-  where
-    by : (r : Result Ground Limit) → named_of p ≡ r → (r >>= λ h. ended (in_turn function_lines (function_order p.decls) h)) ≡ Ok g → (v : Values) × AreTrueLines g v
-    by (Err l) is e = absurd (cc)
-    by (Ok h) is e = of_names p h g s ground.nameable is e satisfied

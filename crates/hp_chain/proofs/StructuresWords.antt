@@ -15,7 +15,7 @@ use Rattle.hp_sorts.specs.Laws.{HasLevel}
 use Rattle.hp_defs.specs.declared.names.Signature.{Signature}
 use Rattle.hp_defs.specs.Names.{NameList, constant_name, constant_sort, constant_words, function_words, profile_of, signature_name, words}
 use Rattle.hp_norm.specs.Laws.{AgreeOnConstants}
-use Rattle.hp_chain.proofs.ValuesWords.{constants_agree, environment}
+use Rattle.hp_chain.proofs.ValuesWords.{constants_agree}
 use Rattle.hp_model.specs.declared.structure.ConstValue.{ConstValue}
 use Rattle.hp_model.specs.declared.structure.Structure.{Structure}
 use Rattle.hp_model.specs.Declarations.{constants, functions}
@@ -25,10 +25,10 @@ use Rattle.hp_model.proofs.Sorted.{declared_scopes_keep_sorts}
 use Rattle.hp_local.proofs.Lists.{contains_later, contains_same}
 use Rattle.hp_local.specs.Structures.{IsLevelled}
 use Rattle.hp_norm.specs.Lines.{constants_of, signatures_from}
-use Rattle.hp_chain.specs.Structures.{const_values}
+use Rattle.hp_class.specs.Frame.{const_values, environment}
+use Rattle.hp_class.specs.Groups.{AreInside}
 use Rattle.hp_chain.proofs.StructuresFilled.{FunctionsKeep}
 use Rattle.hp_chain.proofs.ValuesDeclared.{are_levelled, declared_function}
-use Rattle.hp_chain.proofs.ValuesSorts.{AreInside}
 
 -- ---- constants
 as_many : (size : ℕ) (decls : List Decl) (cs : List ConstValue) → ConstantsFit size (constants decls) cs → length (map entry_value cs) ≡ length (constants_of decls)

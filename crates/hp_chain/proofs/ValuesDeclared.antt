@@ -3,7 +3,7 @@ use Rattle.std.proofs.Common.{◌≡◌, ◌∙◌, ◌+◌, ◌≤◌, inl, inr
 use Rattle.std.specs.Prelude.{slice_get}
 use Rattle.std.specs.Str.{bytes_eq}
 use Rattle.std.specs.List.{All, Contains, list_any}
-use Rattle.std.proofs.lemmas.Bool.{or_parts}
+use Rattle.std.proofs.lemmas.Bool.{ltb-false, or_parts}
 use Rattle.std.proofs.lemmas.List.Elements.{All-cons, All-contains, All-head, All-nil, All-tail}
 use Rattle.hp_names.specs.Names.{AreDistinct, is_among}
 use Rattle.hp_names.proofs.Texts.{text_same}
@@ -15,21 +15,19 @@ use Rattle.hp_tree.specs.Limits.{most_arguments, most_clauses, most_variables}
 use Rattle.hp_tree.specs.declared.limit.Which.TheVariants.{Arguments, Clauses, Variables}
 use Rattle.hp_tree.specs.Value.{Word}
 use Rattle.hp_model.specs.Declarations.{DeclaredFunction, constants, functions, function_named}
-use Rattle.hp_model.specs.WellFormed.{ConstantsFit, IsTableOf, TablesFit}
+use Rattle.hp_model.specs.WellFormed.{ConstantsFit}
 use Rattle.hp_local.specs.Structures.{AreLevelled, IsLevelled}
 use Rattle.hp_local.proofs.Lists.{All-by, contains_cases}
 use Rattle.hp_lit.specs.Truth.{Values}
 use Rattle.hp_sorts.specs.Laws.{HasLevel}
 use Rattle.hp_sorts.specs.Limits.{has_many_arguments, has_many_variables, limit, passed}
 use Rattle.hp_defs.specs.declared.names.Signature.{Signature}
-use Rattle.hp_defs.specs.Names.{NameList, constant_name, constant_sort, signature_name}
+use Rattle.hp_defs.specs.Names.{constant_name, constant_sort, signature_name}
 use Rattle.hp_norm.specs.Lines.{constants_of, signatures_from}
-use Rattle.hp_chain.specs.Structures.{const_values, facts_of, tables_from}
-use Rattle.hp_local.specs.Free.{free_table}
-use Rattle.hp_chain.proofs.ValuesSorts.{AreInside}
 use Rattle.std.proofs.lemmas.Option.{get_or_from_slice_get, slice_get_within}
-use Rattle.hp_chain.specs.Small.{HasFewArguments}
-use Rattle.hp_chain.proofs.OneByOne.{few_arguments as all_few_arguments}
+use Rattle.hp_class.specs.Frame.{const_values}
+use Rattle.hp_class.specs.Groups.{AreInside}
+use Rattle.hp_class.specs.Small.{HasFewArguments}
 
 -- ---- constants
 pub constants_fit : (size : ℕ) (decls : List Decl) (w : Values) → length (constants_of decls) ≤ length w → AreInside size (map constant_sort (constants_of decls)) w
@@ -58,6 +56,14 @@ few_arguments_of p h =
     third (nat_lt most_clauses (length p.clauses)) (list_any has_many_variables p.clauses) (list_any has_many_arguments p.decls)
     (limit Clauses most_clauses) (limit Variables most_variables) (limit Arguments most_arguments) h
 
+pub all_few_arguments : (item : ℕ) (ds : List Decl) → list_any has_many_arguments ds ≡ false → All HasFewArguments (signatures_from item ds)
+all_few_arguments item [] h = All-nil HasFewArguments
+all_few_arguments item (Const name sort ∷ ds) h = all_few_arguments (item + 1) ds h
+all_few_arguments item (Fun name args result level ∷ ds) h =
+    let s : Signature = record { name = name; args = args; result = result; level = level; item = item } in
+    let parts = or_parts (nat_lt most_arguments (length args)) (list_any has_many_arguments ds) h in
+    All-cons HasFewArguments s (signatures_from (item + 1) ds) (ltb-false most_arguments (length args) parts.0) (all_few_arguments (item + 1) ds parts.1)
+
 pub few_arguments : (p : Problem) (k : ℕ) (s : Signature) → passed p ≡ None → slice_get (signatures_from 1 p.decls) k ≡ Some s → length s.args ≤ most_arguments
 few_arguments p k s h e =
     let ss = signatures_from 1 p.decls in
@@ -70,21 +76,6 @@ levels_within item (Fun name args result level ∷ decls) zero s h e =
     let same : record { name = name; args = args; result = result; level = level; item = item } ≡ s = cc in
     subst (λ (x : Signature). (1 ≤ x.level) × (x.level ≤ 16)) same (All-head HasLevel (Fun name args result level) decls h)
 levels_within item (Fun name args result level ∷ decls) (suc k) s h e = levels_within (item + 1) decls k s (All-tail HasLevel (Fun name args result level) decls h) e
-
--- ---- tables
--- the table of each signature fits its declaration
-pub tables_fit : (size : ℕ) (p : Problem) (names : NameList) (w : Values) (decls : List Decl) (item from : ℕ)
-    → ((k : ℕ) (s : Signature) → slice_get (signatures_from item decls) k ≡ Some s → IsTableOf size p (declared_function s) (free_table s.name (length s.args) (facts_of (from + k) s.name names w)))
-    → TablesFit size p (functions decls) (tables_from from (signatures_from item decls) names w)
-tables_fit size p names w [] item from fit = tt
-tables_fit size p names w (Const name sort ∷ decls) item from fit = tables_fit size p names w decls (item + 1) from fit
-tables_fit size p names w (Fun name args result level ∷ decls) item from fit =
-    let s : Signature = record { name = name; args = args; result = result; level = level; item = item } in
-    let Fits = λ (func : ℕ) (x : Signature). IsTableOf size p (declared_function x) (free_table x.name (length x.args) (facts_of func x.name names w)) in
-    let here : from + 0 ≡ from = omega arith in (
-      subst (λ (func : ℕ). Fits func s) here (fit 0 s refl),
-      tables_fit size p names w decls (item + 1) (suc from) (λ k x e. (let next : from + suc k ≡ suc from + k = omega arith in subst (λ (func : ℕ). Fits func x) next (fit (suc k) x e))),
-    )
 
 -- ---- levels
 abbrev function_name : DeclaredFunction → Word

@@ -1,65 +1,78 @@
 -- Values at which every line of a ground set is true give a structure that satisfies the problem.
-use Rattle.std.proofs.Common.{◌≡◌, ◌∙◌, ◌+◌, ◌≤◌, inl, inr, ◌⊎◌, ℕ, List, length, map, Option, Some, refl, sym, ap, subst, arith}
+use Rattle.std.proofs.Common.{◌≡◌, ◌∙◌, ◌+◌, ◌≤◌, ℕ, suc, List, [], ◌∷◌, ◌++◌, length, map, Some, refl, sym, ap, subst, arith}
 use Rattle.std.specs.Prelude.{slice_get}
 use Rattle.std.specs.List.{All, Contains}
-use Rattle.std.proofs.lemmas.List.Elements.{All-contains, Contains-append_left}
+use Rattle.std.proofs.lemmas.List.Elements.{All-contains, All-head, Contains-append_left}
 use Rattle.hp_names.specs.Names.{AreDistinct}
-use Rattle.hp_tree.specs.declared.problem.Sort.{Sort}
 use Rattle.hp_tree.specs.declared.problem.Problem.{Problem}
-use Rattle.hp_lit.specs.declared.literal.Name.{Name}
-use Rattle.hp_lit.specs.declared.line.Body.{Body}
-use Rattle.hp_lit.specs.declared.line.Body.TheVariants.{Apply, Sum}
+use Rattle.hp_tree.specs.declared.problem.Sort.{Sort}
+use Rattle.hp_tree.specs.Universal.{HoldsAll, Universal}
+use Rattle.hp_tree.specs.Value.{Environment}
 use Rattle.hp_lit.specs.declared.line.Line.{Line}
-use Rattle.hp_lit.specs.Sorts.{AreOfSorts, HaveSorts}
-use Rattle.hp_lit.specs.Truth.{Values, LineIsTrue, name_value}
+use Rattle.hp_lit.specs.Sorts.{HaveSorts}
+use Rattle.hp_lit.specs.Truth.{Values, LineIsTrue}
 use Rattle.hp_rank.specs.Ranks.{rank, ranked, universe_size}
 use Rattle.hp_rank.proofs.Pointers.{all_of_sorts, are_ranks, have_sorts as ranks_have_sorts}
 use Rattle.hp_rank.proofs.Steps.{same_length}
 use Rattle.hp_rank.proofs.Truth.{line_kept}
 use Rattle.hp_model.specs.declared.structure.Structure.{Structure}
+use Rattle.hp_model.specs.declared.structure.Table.{Table}
 use Rattle.hp_model.specs.Declarations.{constants, functions}
-use Rattle.hp_model.specs.Scopes.{table_scope}
+use Rattle.hp_model.specs.Satisfies.{Satisfies}
 use Rattle.hp_model.specs.Value.{constant, functions_of}
 use Rattle.hp_model.specs.WellFormed.{ConstantsFit, IsTableOf, TablesFit, WellFormed}
-use Rattle.hp_model.specs.Satisfies.{Satisfies}
-use Rattle.hp_local.specs.Free.{free_table}
-use Rattle.hp_local.proofs.Lists.{All-by}
-use Rattle.hp_local.proofs.Sorts.{free_tables_are_sorted}
-use Rattle.hp_local.proofs.Structures.{functions_follow_tables}
-use Rattle.hp_local.proofs.TableScopes.{table_scopes_fit}
+use Rattle.hp_local.specs.Frame.{AreCongruent, Fact, Frame, HasPoint}
+use Rattle.hp_local.specs.Structures.{AreLevelled, declared_level}
+use Rattle.hp_local.proofs.Lists.{All-by, contains_first}
+use Rattle.hp_local.proofs.Structures.{well_formed_tables_are_lower}
 use Rattle.hp_sorts.proofs.Faultless.{faultless_problems_are_well_sorted}
 use Rattle.hp_defs.specs.declared.names.Constant.{Constant}
 use Rattle.hp_defs.specs.declared.names.Ground.{Ground}
 use Rattle.hp_defs.specs.declared.names.Signature.{Signature}
-use Rattle.hp_defs.specs.Fit.{BodyFits}
-use Rattle.hp_defs.specs.Names.{NameList, constant_name, constant_sort, count, first_names, signature_name, sort_of_definition, sorts, words}
+use Rattle.hp_defs.specs.Names.{BeginsNames, NameList, constant_name, constant_sort, count, signature_name, sort_of_definition, sorts, words}
 use Rattle.hp_defs.proofs.Distinct.{words_are_distinct}
-use Rattle.hp_defs.proofs.Lists.{get_front}
-use Rattle.hp_base.specs.Congruence.{Point}
-use Rattle.hp_base.specs.Laws.{IsPoint}
-use Rattle.hp_base.specs.Values.{Extends, SumsHold, arg_values, body_value, signature_function}
-use Rattle.hp_base.proofs.Congruent.{congruence_says}
-use Rattle.hp_base.proofs.SumsHold.{sums_hold_by_lines}
-use Rattle.hp_norm.specs.Lines.{constants_of}
-use Rattle.hp_norm.specs.Laws.{IsFitLine}
-use Rattle.hp_norm.proofs.ProblemsNamed.{naming_says}
-use Rattle.hp_chain.specs.Ground.{points}
-use Rattle.hp_chain.specs.Order.{pairs}
-use Rattle.hp_chain.specs.Structures.{const_values, facts_of, structure_of, structure_over, tables_from}
-use Rattle.hp_chain.specs.Laws.{IsGroundOf, ValuesGiveAStructure}
-use Rattle.hp_chain.proofs.ValuesClauses.{clauses_hold}
-use Rattle.hp_chain.proofs.ValuesDeclared.{are_levelled, constants_fit, declared_function, few_arguments, tables_fit}
-use Rattle.hp_chain.proofs.ValuesGround.{IsChained, ground_sets_are_fit, is_chained}
-use Rattle.hp_chain.proofs.ValuesPoints.{are_points, is_among_points, pairs_all}
 use Rattle.hp_defs.proofs.Growing.{length_sorts}
-use Rattle.hp_chain.proofs.ValuesSorts.{AreInside, have_sorts, points_inside, ranks_inside}
-use Rattle.hp_chain.proofs.ValuesTables.{AreCongruentPoints, point_long, row_value, rows_have_points, table_found}
-use Rattle.hp_chain.proofs.ValuesWords.{constants_agree, environment, words_agree}
+use Rattle.hp_defs.proofs.Lists.{get_front}
+use Rattle.hp_base.specs.Values.{SumsHold}
+use Rattle.hp_base.proofs.Making.{begins_names}
+use Rattle.hp_base.proofs.SumsHold.{sums_hold_by_lines}
+use Rattle.hp_norm.specs.declared.flat.FlatClause.{FlatClause}
+use Rattle.hp_norm.specs.Flat.{IsFlattened, universal_of}
+use Rattle.hp_norm.specs.Laws.{IsFitLine}
+use Rattle.hp_norm.specs.Lines.{constants_of, signatures_from}
+use Rattle.hp_norm.specs.Sound.{AreTrue, AreValues, IsLater}
+use Rattle.hp_class.specs.Frame.{AreCongruentPoints, const_values, environment, frame_at}
+use Rattle.hp_class.specs.Groups.{AreInside, HasBeenMade, IsModelledTurn}
+use Rattle.hp_class.specs.Law.{IsTableAt}
+use Rattle.hp_class.specs.Points.{points}
+use Rattle.hp_class.proofs.FactsCongruent.{facts_are_congruent}
+use Rattle.hp_class.proofs.GroupsMade.{groups_are_sound}
+use Rattle.hp_class.proofs.GroupsModelled.{groups_are_congruent, groups_are_modelled}
+use Rattle.hp_class.proofs.Through.{words_agree}
+use Rattle.hp_groups.specs.declared.group.Group.{Group}
+use Rattle.hp_groups.specs.contracts.group.GroupLocalClass.TheImpl.{ghosts}
+use Rattle.hp_groups.specs.contracts.group.GroupLocalClass.TheImpl.Laws as group_laws
+use Rattle.hp_groups.specs.Groups.{group_from}
+use Rattle.hp_groups.proofs.Classes.{applied_none, clauses_covered, one_table, own_is}
+use Rattle.hp_chain.specs.Ground.{IsGroundOf, chain_of}
+use Rattle.hp_chain.specs.Order.{function_order}
+use Rattle.hp_chain.specs.Structures.{structure_of, tables_from}
+use Rattle.hp_chain.specs.Laws.{AreTrueLines, ValuesGiveAStructure}
+use Rattle.hp_chain.proofs.Chained.{is_ready}
+use Rattle.hp_chain.proofs.ValuesClauses.{clauses_hold}
+use Rattle.hp_chain.proofs.ValuesDeclared.{are_levelled, constants_fit, declared_function, few_arguments}
+use Rattle.hp_chain.proofs.ValuesDescended.{descended, flattened, group_there}
+use Rattle.hp_chain.proofs.ValuesFacts.{fact_known, facts_inside, points_extend, sorted_points}
+use Rattle.hp_chain.proofs.ValuesGroups.{applies_alone, law_alone, table_alone}
+use Rattle.hp_chain.proofs.ValuesLevels.{IsCompleted, IsOfFunction, clauses_hold as own_clauses_hold, points_kept, tables_by}
+use Rattle.hp_chain.proofs.ValuesSorts.{have_sorts, ranks_inside}
+use Rattle.hp_chain.proofs.ValuesTables.{has_level, table_fits, table_word, tables_fit}
+use Rattle.hp_chain.proofs.ValuesTurns.{has_turn}
+use Rattle.hp_chain.proofs.ValuesWords.{constants_agree}
 
-module _ (p : Problem) (g : Ground) (is : IsGroundOf p g) (c : IsChained p g) (v : Values) (sorted : AreOfSorts (sorts c.base.names) v)
-    (lines : All (λ (line : Line). LineIsTrue v line.lits) g.lines) (fit : All (IsFitLine c.base.names) g.lines) where
+module _ (p : Problem) (g : Ground) (is : IsGroundOf p g) (v : Values) (are_true : AreTrueLines g v) where
   abbrev names : NameList
-  names = c.base.names
+  names = g.names
 
   abbrev ss : List Sort
   ss = sorts names
@@ -70,126 +83,186 @@ module _ (p : Problem) (g : Ground) (is : IsGroundOf p g) (c : IsChained p g) (v
   abbrev size : ℕ
   size = universe_size (count names) ss v
 
+  abbrev flats : List FlatClause
+  flats = is.flats
+
   abbrev s : Structure
-  s = structure_over size names w
+  s = structure_of flats names v
+
+  abbrev frame : Frame
+  frame = frame_at size names w
+
+  flat : IsFlattened p flats is.base
+  flat = flattened p g is
+
+  been_made : HasBeenMade is.base g
+  been_made = groups_are_sound Group ghosts.grow_of ghosts.own ghosts.applied ghosts.clauses ghosts.plan_of ghosts.IsLent (chain_of p flats is.base) is.base g (descended p g is)
+
+  signatures : names.signatures ≡ signatures_from 1 p.decls
+  signatures = been_made.begins.signatures ∙ flat.signatures
+
+  declared : names.constants ≡ constants_of p.decls
+  declared = been_made.begins.constants ∙ flat.constants
 
   -- ---- values
+  had : HaveSorts ss v
+  had = have_sorts ss v are_true.sorted
+
   have : HaveSorts ss w
-  have = ranks_have_sorts (count names) ss v (have_sorts ss v sorted)
+  have = ranks_have_sorts (count names) ss v had
 
   inside : AreInside size ss w
-  inside = ranks_inside (count names) ss v (let e = length_sorts names in omega (arith, e)) (have_sorts ss v sorted)
+  inside = ranks_inside (count names) ss v (let e = length_sorts names in omega (arith, e)) had
 
   some : 1 ≤ size
   some = (are_ranks (count names) ss v).some
 
-  abbrev IsTrueLine : Line → Type 0
-  IsTrueLine line = LineIsTrue w line.lits
+  true_lines : AreTrue w g.lines
+  true_lines =
+      All-by (λ (line : Line). LineIsTrue w line.lits) g.lines (λ line m.
+      (line_kept (count names) ss v had line.lits (All-contains (IsFitLine names) g.lines line been_made.sound.lines m)).1 (All-contains (λ (l : Line). LineIsTrue v l.lits) g.lines line are_true.lines m))
 
-  true_lines : All IsTrueLine g.lines
-  true_lines = All-by IsTrueLine g.lines (λ line m. (line_kept (count names) ss v (have_sorts ss v sorted) line.lits (All-contains (IsFitLine names) g.lines line fit m)).1 (All-contains (λ (l : Line). LineIsTrue v l.lits) g.lines line lines m))
-
-  base_lines : All IsTrueLine c.base.lines
-  base_lines = All-by IsTrueLine c.base.lines (λ line m. All-contains IsTrueLine g.lines line true_lines (subst (λ (ls : List Line). Contains ls line) (sym c.adds.lines) (Contains-append_left c.base.lines c.adds.added line m)))
+  base_lines : AreTrue w is.base.lines
+  base_lines =
+      All-by (λ (line : Line). LineIsTrue w line.lits) is.base.lines (λ line m.
+      All-contains (λ (l : Line). LineIsTrue w l.lits) g.lines line true_lines
+      (subst (λ (ls : List Line). Contains ls line) (sym been_made.begins.lines) (Contains-append_left is.base.lines been_made.begins.added line m)))
 
   sums : SumsHold names w
-  sums = sums_hold_by_lines c.base w c.made.sums base_lines
+  sums = sums_hold_by_lines g w been_made.sound.sums true_lines
 
-  -- ---- applications
-  are : (func : ℕ) (signature : Signature) → slice_get names.signatures func ≡ Some signature → (q : Point) → Contains (points func names.definitions) q → IsPoint ss signature q
-  are = are_points names c.made.made c.made.names
+  -- ---- functions
+  abbrev group : ℕ → Signature → Group
+  group func t = group_from func t flats
 
-  pair_congruent : (func : ℕ) (signature : Signature) → slice_get names.signatures func ≡ Some signature → (q r : Point) → Contains (points func names.definitions) q → Contains (points func names.definitions) r
-      → Contains {X = Point × Point} (pairs (points func names.definitions)) (q, r) → arg_values w q.args ≡ arg_values w r.args → name_value w q.name.0 ≡ name_value w r.name.0
-  pair_congruent func signature known q r a b m =
-      let h = c.says func signature known (q, r) m in
-      (congruence_says ss signature q r h.line.lits w have (are func signature known q a) (are func signature known r b) h.says).0 (All-contains IsTrueLine g.lines h.line true_lines h.there)
+  abbrev table : ℕ → Signature → Table
+  table func t = (one_table func t flats size names w).0
 
-  congruent : (func : ℕ) (signature : Signature) → slice_get names.signatures func ≡ Some signature → AreCongruentPoints w (points func names.definitions)
-  congruent func signature known q r a b = by (pairs_all (points func names.definitions) q r a b)
-    where
-      by : (q ≡ r) ⊎ (Contains {X = Point × Point} (pairs (points func names.definitions)) (q, r) ⊎ Contains {X = Point × Point} (pairs (points func names.definitions)) (r, q))
-          → arg_values w q.args ≡ arg_values w r.args → name_value w q.name.0 ≡ name_value w r.name.0
-      by (inl e) same = ap (λ (x : Point). name_value w x.name.0) e
-      by (inr (inl m)) same = pair_congruent func signature known q r a b m same
-      by (inr (inr m)) same = sym (pair_congruent func signature known r q b a m (sym same))
+  only_table : (func : ℕ) (t : Signature) → ghosts.tables_of (group func t) size names w ≡ table func t ∷ []
+  only_table func t = (one_table func t flats size names w).1
 
-  few : (func : ℕ) (signature : Signature) → slice_get names.signatures func ≡ Some signature → length signature.args ≤ 4
-  few func signature known = few_arguments p func signature is.limits (ap (λ (xs : List Signature). slice_get xs func) (sym c.made.signatures) ∙ known)
+  abbrev universals : ℕ → Signature → List Universal
+  universals func t = map universal_of (ghosts.clauses (group func t))
+
+  declared_as : (func : ℕ) (t : Signature) → slice_get names.signatures func ≡ Some t → slice_get (signatures_from 1 p.decls) func ≡ Some t
+  declared_as func t known = ap (λ (xs : List Signature). slice_get xs func) (sym signatures) ∙ known
+
+  levelled : AreLevelled p
+  levelled = are_levelled p (faultless_problems_are_well_sorted p is.able.sorted).levels (subst (λ (xs : List Signature). AreDistinct (map signature_name xs)) signatures been_made.sound.made.functions)
+
+  -- its group is one of the chain
+  among : (func : ℕ) (t : Signature) → slice_get names.signatures func ≡ Some t → Contains (chain_of p flats is.base) (group func t)
+  among func t known =
+      let as_declared = declared_as func t known in
+      let level = has_level p levelled func t as_declared in
+      group_there flats is.base.names.signatures (function_order p.decls) func t (has_turn p.decls func t as_declared level.1 level.2)
+      (ap (λ (xs : List Signature). slice_get xs func) (sym been_made.begins.signatures) ∙ known)
+
+  lent : (func : ℕ) (t : Signature) → slice_get names.signatures func ≡ Some t → ghosts.IsLent (group func t) names
+  lent func t known =
+      let d = descended p g is in
+      let begins : BeginsNames is.base.names names = begins_names is.base g been_made.begins in
+      d.law.stays (group func t) is.base.names names (All-contains (λ (c : Group). ghosts.IsLent c is.base.names) (chain_of p flats is.base) (group func t) d.lent (among func t known)) begins been_made.sound.made
+
+  congruent : (func : ℕ) (t : Signature) → slice_get names.signatures func ≡ Some t → AreCongruentPoints w (points func names.definitions)
+  congruent func t known =
+      groups_are_congruent Group ghosts.grow_of ghosts.own ghosts.applied ghosts.clauses ghosts.plan_of ghosts.IsLent (chain_of p flats is.base) is.base g w (descended p g is) have true_lines
+      (group func t) func (among func t known) (subst (λ (funcs : List ℕ). Contains funcs func) (sym (own_is func t flats)) (contains_first func []))
+
+  facts_congruent : AreCongruent frame.facts
+  facts_congruent = facts_are_congruent size names w been_made.sound.made congruent
 
   -- ---- the structure fits the declarations
-  table_of : (func : ℕ) (signature : Signature) → slice_get names.signatures func ≡ Some signature
-      → IsTableOf size p (declared_function signature) (free_table signature.name (length signature.args) (facts_of func signature.name names w))
-  table_of func signature known = record {
-    name = refl;
-    arguments = refl;
-    sorted = free_tables_are_sorted size signature.args signature.result (table_scope size p signature.args signature.level) signature.name (length signature.args) (facts_of func signature.name names w) some
-        (table_scopes_fit size p signature.args signature.level (few func signature known)) (points_inside size ss w some inside signature signature.name (points func names.definitions) (are func signature known));
-  }
+  at_table : (func : ℕ) (t : Signature) → slice_get names.signatures func ≡ Some t → IsTableAt size names [] func (table func t)
+  at_table func t known =
+      table_alone size names func (ghosts.own (group func t)) (ghosts.applied (group func t)) (ghosts.tables_of (group func t) size names w) (table func t)
+      (own_is func t flats) (applied_none func t flats) (only_table func t)
+      (group_laws.fitting-law (group func t) size names w (lent func t known) some (λ f m. sorted_points size names w been_made.sound.made been_made.sound.names some inside f))
+
+  all_tables : (from : ℕ) (ts : List Signature) → tables_from flats size from ts names w ≡ tables_by table from ts
+  all_tables from [] = refl
+  all_tables from (t ∷ ts) = λ i. only_table from t i ++ all_tables (suc from) ts i
+
+  fits_tables : TablesFit size p (functions p.decls) s.tables
+  fits_tables =
+      let fits = tables_fit size p table p.decls 1 0 (λ k t e. (
+      let at : k ≡ 0 + k = omega arith in
+      let known = ap (λ (xs : List Signature). slice_get xs k) signatures ∙ e in
+      subst (λ (func : ℕ). IsTableOf size p (declared_function t) (table func t)) at
+      (table_fits p size k names t (table k t) declared been_made.sound.made.distinct (few_arguments p k t is.limits e) known (at_table k t known)))) in
+      subst (λ (ts : List Table). TablesFit size p (functions p.decls) ts) (sym (all_tables 0 names.signatures))
+      (subst (λ (xs : List Signature). TablesFit size p (functions p.decls) (tables_by table 0 xs)) (sym signatures) fits)
 
   constants_inside : AreInside size (map constant_sort (constants_of p.decls)) w
   constants_inside k sort e =
       inside k sort (get_front (map constant_sort names.constants) (map (sort_of_definition names.signatures) names.definitions) k sort
-      (ap (λ (cs : List Constant). slice_get (map constant_sort cs) k) c.made.constants ∙ e))
+      (ap (λ (cs : List Constant). slice_get (map constant_sort cs) k) declared ∙ e))
 
   long : length (constants_of p.decls) ≤ length w
   long =
-      let all = same_length ss w (all_of_sorts (rank (count names) ss v) ss v sorted) in
+      let all = same_length ss w (all_of_sorts (rank (count names) ss v) ss v are_true.sorted) in
       let total = length_sorts names in
-      let same = ap (λ (cs : List Constant). length cs) c.made.constants in
+      let same = ap (λ (cs : List Constant). length cs) declared in
       omega (arith, all, total, same)
 
   fits_consts : ConstantsFit size (constants p.decls) s.consts
-  fits_consts = subst (λ (cs : List Constant). ConstantsFit size (constants p.decls) (const_values (map constant_name cs) w)) (sym c.made.constants) (constants_fit size p.decls w long constants_inside)
-
-  fits_tables : TablesFit size p (functions p.decls) s.tables
-  fits_tables =
-      subst (λ (xs : List Signature). TablesFit size p (functions p.decls) (tables_from 0 xs names w)) (sym c.made.signatures)
-      (tables_fit size p names w p.decls 1 0 (λ k signature e. (
-      let at : k ≡ 0 + k = omega arith in
-      let known = ap (λ (xs : List Signature). slice_get xs k) c.made.signatures ∙ e in
-      subst (λ (func : ℕ). IsTableOf size p (declared_function signature) (free_table signature.name (length signature.args) (facts_of func signature.name names w))) at (table_of k signature known))))
+  fits_consts = subst (λ (cs : List Constant). ConstantsFit size (constants p.decls) (const_values (map constant_name cs) w)) (sym declared) (constants_fit size p.decls w long constants_inside)
 
   well_formed : WellFormed s p
   well_formed = record { universe = some; constants_fit = fits_consts; tables_fit = fits_tables }
 
-  -- ---- definitions have the values of their bodies
-  function_value : (func : ℕ) (signature : Signature) (q : Point) → slice_get names.signatures func ≡ Some signature → Contains (points func names.definitions) q
-      → functions_of s signature.name (arg_values w q.args) ≡ name_value w q.name.0
-  function_value func signature q known m =
-      let f = functions_of s in
-      let consts = constant s.consts in
-      let at : 0 + func ≡ func = omega arith in
-      let levelled = are_levelled p (faultless_problems_are_well_sorted p is.nameable.sorted).levels (subst (λ (xs : List Signature). AreDistinct (map signature_name xs)) c.made.signatures c.made.made.functions) in
-      functions_follow_tables s p well_formed levelled signature.name (arg_values w q.args)
-      ∙ table_found consts f names w names.signatures 0 func signature (arg_values w q.args) c.made.made.functions known
-      ∙ ap (λ (k : ℕ). row_value consts f names w k signature.name (arg_values w q.args)) at
-      ∙ rows_have_points consts f names w func signature.name (length signature.args) q (few func signature known)
-      (λ r a. point_long ss signature r (are func signature known r a)) (congruent func signature known) m
+  -- ---- the law of each group
+  completed : (func : ℕ) (t : Signature) → slice_get names.signatures func ≡ Some t → IsCompleted (declared_level p) frame t (universals func t) (table func t)
+  completed func t known =
+      let c = group func t in
+      let turns = groups_are_modelled Group ghosts.grow_of ghosts.own ghosts.applied ghosts.clauses ghosts.plan_of ghosts.IsLent (chain_of p flats is.base) is.base g size w (descended p g is) have facts_congruent true_lines in
+      let turn = All-contains (IsModelledTurn ghosts.own ghosts.applied ghosts.plan_of ghosts.IsLent size names w) (chain_of p flats is.base) c turns (among func t known) in
+      let law = group_laws.completes-law c size tt turn.mid turn.next names w turn.lent turn.made turn.modelled (is_ready c names w) in
+      let level = has_level p levelled func t (declared_as func t known) in
+      record {
+        word = table_word size func names t (table func t) known (at_table func t known);
+        of_level = level.0;
+        low = level.1;
+        high = level.2;
+        applies = applies_alone names func t (ghosts.own c) (ghosts.applied c) (ghosts.clauses c) known (own_is func t flats) (applied_none func t flats) ((descended p g is).law.applies c names (lent func t known));
+        law = law_alone names frame func t (ghosts.own c) (ghosts.applied c) (ghosts.clauses c) (ghosts.tables_of c size names w) (table func t) known (own_is func t flats) (applied_none func t flats) (only_table func t) law;
+      }
 
-  extends : Extends (functions_of s) names w
-  extends k d there = by d.body refl
-    where
-      by : (b : Body) → d.body ≡ b → name_value w (length names.constants + k) ≡ body_value (functions_of s) names w b
-      by (Sum lin) e = sums k d lin there e
-      by (Apply func args) e =
-          let body : BodyFits (first_names k names) (Apply func args) = subst (λ (b : Body). BodyFits (first_names k names) b) e (c.made.names k d there) in
-          let q : Point = record { name = d.name; args = args } in
-          let value = function_value func body.known q body.found (is_among_points func names.definitions k d args there e) in
-          ap (λ (x : Name). name_value w x.0) (sym (c.made.made.named k d there)) ∙ sym value
-          ∙ ap (λ (o : Option Signature). signature_function (functions_of s) o (arg_values w args)) (sym body.found)
+  of_function : (k : Fact) → Contains frame.facts k → IsOfFunction names.signatures k
+  of_function k m = let f = fact_known names w names.definitions k m in record { func = f.func; signature = f.signature; known = f.known; word = ap (λ (j : Fact). j.func) (sym f.same) }
+
+  group_clauses : (func : ℕ) (t : Signature) → slice_get names.signatures func ≡ Some t → All (HoldsAll size (environment (words names) w) (functions_of s)) (universals func t)
+  group_clauses =
+      own_clauses_hold s (declared_level p) frame names.signatures universals table (λ word. refl) (well_formed_tables_are_lower s p well_formed levelled) (all_tables 0 names.signatures)
+      been_made.sound.made.functions completed of_function
+
+  kept : (k : Fact) → Contains frame.facts k → HasPoint (functions_of s) k
+  kept k m =
+      points_kept s (declared_level p) frame names.signatures universals table (λ word. refl) (well_formed_tables_are_lower s p well_formed levelled) (all_tables 0 names.signatures)
+      been_made.sound.made.functions completed of_function k m (facts_inside size names w been_made.sound.made been_made.sound.names some inside k m)
 
   -- ---- clauses
+  flats_hold : All (λ c. HoldsAll size (environment (words names) w) (functions_of s) (universal_of c)) flats
+  flats_hold = All-by (λ (c : FlatClause). HoldsAll size (environment (words names) w) (functions_of s) (universal_of c)) flats (λ c m. (
+      let h = clauses_covered is.base.names flats flat.sound.made is.taken c m in
+      let func = h.0 in
+      let t = h.1 in
+      let known = ap (λ (xs : List Signature). slice_get xs func) been_made.begins.signatures ∙ h.2 in
+      All-head (HoldsAll size (environment (words names) w) (functions_of s)) (universal_of c) []
+      (subst (λ (cs : List FlatClause). All (HoldsAll size (environment (words names) w) (functions_of s)) (map universal_of cs)) h.3 (group_clauses func t known))))
+
   pub satisfied : Satisfies s p
   satisfied =
-      let env = environment (words names) w in
-      let agrees = words_agree (words names) w (words_are_distinct names c.made.made) in
-      let true_clauses = (naming_says p c.base w env (functions_of s) is.nameable c.named agrees have extends).0 base_lines in
-      record { well_formed = well_formed; holds = (clauses_hold p s env (constants_agree p names w c.made.constants) is.nameable).1 true_clauses }
+      let env : Environment = environment (words names) w in
+      let later : IsLater is.base g = record { begins = been_made.begins; made = been_made.sound.made } in
+      let values : AreValues g w env (functions_of s) = record {
+        agrees = words_agree (words names) w (words_are_distinct names been_made.sound.made);
+        extends = points_extend names w (functions_of s) been_made.sound.made been_made.sound.names sums kept;
+      } in
+      record {
+        well_formed = well_formed;
+        holds = clauses_hold size is.base g w env (functions_of s) later values p flats (constant s.consts) is.able flat have base_lines flats_hold (constants_agree p names w declared);
+      }
 
 pub values_give_a_structure : ValuesGiveAStructure
-values_give_a_structure p g is v true_lines =
-    let c = is_chained p g is in
-    let sorted = subst (λ (m : NameList). AreOfSorts (sorts m) v) c.adds.kept true_lines.sorted in
-    let fit = subst (λ (m : NameList). All (IsFitLine m) g.lines) c.adds.kept (ground_sets_are_fit p g is) in
-    subst (λ (m : NameList). Satisfies (structure_of m v) p) (sym c.adds.kept) (satisfied p g is c v sorted true_lines.lines fit)
+values_give_a_structure = satisfied

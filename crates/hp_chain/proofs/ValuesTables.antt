@@ -1,89 +1,120 @@
--- The tables of applications give each application its value, where equal arguments have equal values.
-use Rattle.std.proofs.Common.{◌≡◌, ◌∙◌, ◌+◌, ◌≤◌, ℕ, zero, suc, pos, cond, List, [], ◌∷◌, length, map, Some, sym, ap, subst, arith, append-nil}
+-- Tables that fit the names of a ground set fit the declarations of its problem.
+use Rattle.std.proofs.Common.{◌≡◌, ◌∙◌, ◌+◌, ◌≤◌, ℕ, zero, suc, cond, false, List, [], ◌∷◌, length, map, codes, Option, Some, refl, sym, ap, subst, arith}
 use Rattle.std.specs.Prelude.{slice_get}
-use Rattle.std.specs.List.{Contains}
-use Rattle.std.proofs.lemmas.List.{length-map}
-use Rattle.std.proofs.lemmas.Slice.Zip.{AllZip-long}
-use Rattle.hp_math.specs.Rational.{ℚ, whole}
-use Rattle.hp_names.specs.Names.{AreDistinct}
+use Rattle.std.specs.List.{Contains, list_any}
+use Rattle.std.specs.Str.{bytes_eq}
+use Rattle.std.proofs.lemmas.Bool.{or_parts}
+use Rattle.std.proofs.lemmas.List.Elements.{All-contains}
+use Rattle.std.proofs.lemmas.Option.{same_Some}
+use Rattle.hp_names.specs.Names.{AreDistinct, is_among}
 use Rattle.hp_names.proofs.Distinct.{absent}
 use Rattle.hp_names.proofs.Texts.{text_same}
-use Rattle.hp_tree.specs.declared.term.Term.{Number}
+use Rattle.hp_tree.specs.declared.problem.Decl.{Decl}
+use Rattle.hp_tree.specs.declared.problem.Decl.TheVariants.{Const, Fun}
+use Rattle.hp_tree.specs.declared.problem.Problem.{Problem}
 use Rattle.hp_tree.specs.declared.problem.Sort.{Sort}
-use Rattle.hp_tree.specs.Value.{Word, Environment, Functions}
 use Rattle.hp_tree.specs.Limits.{most_arguments}
-use Rattle.hp_model.specs.declared.structure.Row.{Row}
-use Rattle.hp_model.specs.Value.{rows_value, tables_value, with_arguments}
-use Rattle.hp_lit.specs.Truth.{Values, name_value}
-use Rattle.hp_local.specs.Frame.{Fact}
-use Rattle.hp_local.specs.Rows.{HaveArguments, point_rows}
-use Rattle.hp_local.proofs.Lists.{contains_map, map_contains}
-use Rattle.hp_local.proofs.Rows.{at_points_kept, point_rows_value}
+use Rattle.hp_tree.specs.Value.{Word}
+use Rattle.hp_model.specs.declared.structure.Table.{Table}
+use Rattle.hp_model.specs.Declarations.{constant_sort as declared_sort, constants, functions}
+use Rattle.hp_model.specs.Scopes.{argument_sort, table_scope}
+use Rattle.hp_model.specs.WellFormed.{IsSortedTable, IsTableOf, TablesFit}
+use Rattle.hp_local.specs.Rows.{argument_words}
+use Rattle.hp_local.specs.Structures.{AreLevelled, IsLevelled, declared_level, level_of}
+use Rattle.hp_local.proofs.Lists.{contains_first, contains_later, contains_none}
+use Rattle.hp_local.proofs.TableScopes.{table_scopes_fit}
+use Rattle.hp_defs.specs.declared.names.Constant.{Constant}
 use Rattle.hp_defs.specs.declared.names.Signature.{Signature}
-use Rattle.hp_defs.specs.Fit.{ArgFits}
-use Rattle.hp_defs.specs.Names.{NameList, signature_name}
-use Rattle.hp_base.specs.Congruence.{Point}
-use Rattle.hp_base.specs.Laws.{IsPoint}
-use Rattle.hp_base.specs.Values.{arg_value, arg_values}
-use Rattle.hp_chain.specs.Ground.{points}
-use Rattle.hp_chain.specs.Structures.{fact_of, facts_of, tables_from}
+use Rattle.hp_defs.specs.Names.{NameList, constant_name}
+use Rattle.hp_norm.specs.Lines.{constants_of, signatures_from}
+use Rattle.hp_class.specs.Law.{IsScopeAt, IsTableAt}
+use Rattle.hp_chain.proofs.ValuesDeclared.{declared_function}
+use Rattle.hp_chain.proofs.ValuesLevels.{tables_by}
 
--- ---- the table of a function
-word_there : (ss : List Signature) (k : ℕ) (s : Signature) → slice_get ss k ≡ Some s → slice_get (map signature_name ss) k ≡ Some s.name
-word_there [] k s e = absurd (cc)
-word_there (t ∷ ss) zero s e = let same : t ≡ s = cc in ap (λ (x : Signature). Some x.name) same
-word_there (t ∷ ss) (suc k) s e = word_there ss k s e
+-- ---- constants
+constant_there : (cs : List Constant) (k : ℕ) (c : Constant) → slice_get cs k ≡ Some c → slice_get (map constant_name cs) k ≡ Some c.name
+constant_there [] k c e = absurd (cc)
+constant_there (b ∷ cs) zero c e = let same : b ≡ c = cc in ap (λ (x : Constant). Some x.name) same
+constant_there (b ∷ cs) (suc k) c e = constant_there cs k c e
 
--- equal arguments have equal values
-abbrev pub AreCongruentPoints : Values → List Point → Type 0
-AreCongruentPoints w ps = (p q : Point) → Contains ps p → Contains ps q → arg_values w p.args ≡ arg_values w q.args → name_value w p.name.0 ≡ name_value w q.name.0
+-- the first constant with its word is its own
+constant_known : (decls : List Decl) (k : ℕ) (c : Constant) → AreDistinct (map constant_name (constants_of decls)) → slice_get (constants_of decls) k ≡ Some c
+    → declared_sort (constants decls) c.name ≡ Some c.sort
+constant_known [] k c once e = absurd (cc)
+constant_known (Const name sort ∷ decls) zero c once e =
+    let b : Constant = record { name = name; sort = sort } in
+    let same : b ≡ c = cc in
+    subst (λ (x : Constant). declared_sort (constants (Const name sort ∷ decls)) x.name ≡ Some x.sort) same (ap (λ t. cond t (Some sort) (declared_sort (constants decls) name)) (text_same name))
+constant_known (Const name sort ∷ decls) (suc k) c once e =
+    ap (λ t. cond t (Some sort) (declared_sort (constants decls) c.name)) (absent name (map constant_name (constants_of decls)) k c.name once.0 (constant_there (constants_of decls) k c e))
+    ∙ constant_known decls k c once.1 e
+constant_known (Fun name args result level ∷ decls) k c once e = constant_known decls k c once e
 
-module _ (consts : Environment) (f : Functions) (names : NameList) (w : Values) where
-  abbrev pub row_value : ℕ → Word → List ℚ → ℚ
-  row_value func word args = rows_value (with_arguments args consts) f (point_rows (facts_of func word names w)) (Number (whole (pos 0)))
+-- a word that is none of the arguments'
+other_sort : (args : List Sort) (other : Option Sort) (word : Word) → is_among word argument_words ≡ false → argument_sort args other word ≡ other
+other_sort args other word h =
+    let first = bytes_eq word (codes "$1") in
+    let second = bytes_eq word (codes "$2") in
+    let third = bytes_eq word (codes "$3") in
+    let fourth = bytes_eq word (codes "$4") in
+    let a = or_parts first (list_any (bytes_eq word) (codes "$2" ∷ codes "$3" ∷ codes "$4" ∷ [])) h in
+    let b = or_parts second (list_any (bytes_eq word) (codes "$3" ∷ codes "$4" ∷ [])) a.1 in
+    let c = or_parts third (list_any (bytes_eq word) (codes "$4" ∷ [])) b.1 in
+    let d = or_parts fourth false c.1 in
+    λ i. cond (a.0 i) (slice_get args 0) (cond (b.0 i) (slice_get args 1) (cond (c.0 i) (slice_get args 2) (cond (d.0 i) (slice_get args 3) other)))
 
-  -- the first table with the word of a function is its own
-  pub table_found : (ss : List Signature) (from k : ℕ) (s : Signature) (args : List ℚ) → AreDistinct (map signature_name ss) → slice_get ss k ≡ Some s
-      → tables_value consts f (tables_from from ss names w) s.name args ≡ row_value (from + k) s.name args
-  table_found [] from k s args once e = absurd (cc)
-  table_found (t ∷ ss) from zero s args once e =
-      let same : t ≡ s = cc in
-      let at : from ≡ from + 0 = omega arith in
-      let here = ap (λ b. cond b (row_value from t.name args) (tables_value consts f (tables_from (suc from) ss names w) t.name args)) (text_same t.name) ∙ ap (λ (n : ℕ). row_value n t.name args) at in
-      subst (λ (x : Signature). tables_value consts f (tables_from from (t ∷ ss) names w) x.name args ≡ row_value (from + 0) x.name args) same here
-  table_found (t ∷ ss) from (suc k) s args once e =
-      let at : suc from + k ≡ from + suc k = omega arith in
-      let apart = absent t.name (map signature_name ss) k s.name once.0 (word_there ss k s e) in
-      ap (λ b. cond b (row_value from t.name args) (tables_value consts f (tables_from (suc from) ss names w) s.name args)) apart
-      ∙ table_found ss (suc from) k s args once.1 e ∙ ap (λ (n : ℕ). row_value n s.name args) at
+-- ---- one table
+-- a table that applies no function
+pub table_fits : (p : Problem) (size func : ℕ) (names : NameList) (s : Signature) (table : Table) → names.constants ≡ constants_of p.decls → AreDistinct (map constant_name names.constants)
+    → length s.args ≤ most_arguments → slice_get names.signatures func ≡ Some s → IsTableAt size names [] func table → IsTableOf size p (declared_function s) table
+table_fits p size func names s table declared once few known at =
+    let same : at.signature ≡ s = same_Some at.signature s (sym at.known ∙ known) in
+    let scope = table_scope size p s.args s.level in
+    let fits : IsScopeAt size names [] s.args scope = record {
+      arguments = table_scopes_fit size p s.args s.level few;
+      constants = λ k c there other.
+          other_sort s.args (declared_sort (constants p.decls) c.name) c.name other
+          ∙ constant_known p.decls k c (subst (λ (cs : List Constant). AreDistinct (map constant_name cs)) declared once) (ap (λ (cs : List Constant). slice_get cs k) (sym declared) ∙ there);
+      functions = λ k t m there. absurd (contains_none k m);
+    } in
+    let sorted = at.sorted scope (subst (λ (x : Signature). IsScopeAt size names [] x.args scope) (sym same) fits) in
+    record {
+      name = at.name ∙ ap (λ (x : Signature). x.name) same;
+      arguments = at.arguments ∙ ap (λ (x : Signature). length x.args) same;
+      sorted = subst (λ (x : Signature). IsSortedTable scope x.result table) same sorted;
+    }
 
-  -- ---- the rows of a function
-  facts_have_arguments : (word : Word) (count : ℕ) (ps : List Point) → ((p : Point) → Contains ps p → length p.args ≡ count) → HaveArguments count (map (fact_of word w) ps)
-  facts_have_arguments word count ps long k m =
-      let h = map_contains (fact_of word w) ps k m in
-      ap (λ (l : Fact). length l.args) (sym h.2) ∙ length-map h.0.args (arg_value w) ∙ long h.0 h.1
+pub table_word : (size func : ℕ) (names : NameList) (s : Signature) (table : Table) → slice_get names.signatures func ≡ Some s → IsTableAt size names [] func table → table.func ≡ s.name
+table_word size func names s table known at = at.name ∙ ap (λ (x : Signature). x.name) (same_Some at.signature s (sym at.known ∙ known))
 
-  facts_congruent : (word : Word) (ps : List Point) → AreCongruentPoints w ps → (k l : Fact) → Contains (map (fact_of word w) ps) k → Contains (map (fact_of word w) ps) l → k.args ≡ l.args → k.value ≡ l.value
-  facts_congruent word ps congruent k l m n e =
-      let g = map_contains (fact_of word w) ps k m in
-      let h = map_contains (fact_of word w) ps l n in
-      let same = congruent g.0 h.0 g.1 h.1 (ap (λ (j : Fact). j.args) g.2 ∙ e ∙ ap (λ (j : Fact). j.args) (sym h.2)) in
-      ap (λ (j : Fact). j.value) (sym g.2) ∙ same ∙ ap (λ (j : Fact). j.value) h.2
+-- ---- all tables
+pub tables_fit : (size : ℕ) (p : Problem) (table : ℕ → Signature → Table) (decls : List Decl) (item from : ℕ)
+    → ((k : ℕ) (s : Signature) → slice_get (signatures_from item decls) k ≡ Some s → IsTableOf size p (declared_function s) (table (from + k) s))
+    → TablesFit size p (functions decls) (tables_by table from (signatures_from item decls))
+tables_fit size p table [] item from fit = tt
+tables_fit size p table (Const name sort ∷ decls) item from fit = tables_fit size p table decls (item + 1) from fit
+tables_fit size p table (Fun name args result level ∷ decls) item from fit =
+    let s : Signature = record { name = name; args = args; result = result; level = level; item = item } in
+    let Fits = λ (func : ℕ) (x : Signature). IsTableOf size p (declared_function x) (table func x) in
+    let here : from + 0 ≡ from = omega arith in (
+      subst (λ (func : ℕ). Fits func s) here (fit 0 s refl),
+      tables_fit size p table decls (item + 1) (suc from) (λ k x e. (let next : from + suc k ≡ suc from + k = omega arith in subst (λ (func : ℕ). Fits func x) next (fit (suc k) x e))),
+    )
 
-  pub rows_have_points : (func : ℕ) (word : Word) (count : ℕ) (p : Point) → count ≤ most_arguments → ((q : Point) → Contains (points func names.definitions) q → length q.args ≡ count)
-      → AreCongruentPoints w (points func names.definitions) → Contains (points func names.definitions) p → row_value func word (arg_values w p.args) ≡ name_value w p.name.0
-  rows_have_points func word count p few long congruent m =
-      let ps = points func names.definitions in
-      let facts = facts_of func word names w in
-      let last = Number (whole (pos 0)) in
-      let args = arg_values w p.args in
-      let same : length args ≡ count = length-map p.args (arg_value w) ∙ long p m in
-      let have = facts_have_arguments word count ps long in
-      let at = contains_map (fact_of word w) ps p m in
-      ap (λ (rs : List Row). rows_value (with_arguments args consts) f rs last) (sym (append-nil (point_rows facts)))
-      ∙ point_rows_value consts f facts [] last args (omega (arith, few, same)) (λ k n. have k n ∙ sym same)
-      ∙ at_points_kept facts (facts_congruent word ps congruent) (fact_of word w p) at _
+-- ---- levels
+declared_there : (item : ℕ) (decls : List Decl) (k : ℕ) (s : Signature) → slice_get (signatures_from item decls) k ≡ Some s → Contains (functions decls) (declared_function s)
+declared_there item [] k s e = absurd (cc)
+declared_there item (Const name sort ∷ decls) k s e = declared_there (item + 1) decls k s e
+declared_there item (Fun name args result level ∷ decls) zero s e =
+    let t : Signature = record { name = name; args = args; result = result; level = level; item = item } in
+    let same : t ≡ s = cc in
+    subst (λ (x : Signature). Contains (functions (Fun name args result level ∷ decls)) (declared_function x)) same (contains_first (declared_function t) (functions decls))
+declared_there item (Fun name args result level ∷ decls) (suc k) s e =
+    contains_later (record { name = name; profile = record { args = args; result = result }; level = level }) (functions decls) (declared_function s) (declared_there (item + 1) decls k s e)
 
--- a point has as many arguments as its function
-pub point_long : (sorts : List Sort) (signature : Signature) (p : Point) → IsPoint sorts signature p → length p.args ≡ length signature.args
-point_long sorts signature p is = AllZip-long (ArgFits sorts) signature.args p.args is.args
+-- a function has its level
+pub has_level : (p : Problem) → AreLevelled p → (k : ℕ) (s : Signature) → slice_get (signatures_from 1 p.decls) k ≡ Some s
+    → (declared_level p s.name ≡ s.level) × (1 ≤ s.level) × (s.level ≤ 16)
+has_level p levelled k s e =
+    let w = All-contains (IsLevelled p) (functions p.decls) (declared_function s) levelled (declared_there 1 p.decls k s e) in
+    (ap level_of w.first, w.low, w.high)

@@ -1,35 +1,18 @@
 -- The words of all names as an environment: each has the value of its name, and the declared constants have theirs in the structure.
-use Rattle.std.proofs.Common.{◌≡◌, ◌∙◌, ◌++◌, inl, inr, zero, suc, cond, List, [], ◌∷◌, length, map, Option, Some, None, refl, sym, ap, subst, true}
+use Rattle.std.proofs.Common.{◌≡◌, ◌∙◌, ◌++◌, inl, inr, cond, List, [], ◌∷◌, length, map, refl, sym, ap, subst, true}
 use Rattle.std.specs.Str.{bytes_eq}
 use Rattle.std.specs.List.{Contains}
-use Rattle.hp_names.specs.Names.{AreDistinct}
-use Rattle.hp_names.proofs.Distinct.{absent}
 use Rattle.hp_names.proofs.Texts.{text_same}
 use Rattle.hp_tree.specs.declared.problem.Problem.{Problem}
-use Rattle.hp_tree.specs.Value.{Word, Environment}
-use Rattle.hp_model.specs.Value.{constant}
+use Rattle.hp_tree.specs.Value.{Word}
 use Rattle.hp_lit.specs.Truth.{Values}
-use Rattle.hp_lit.specs.Words.{Agrees}
 use Rattle.hp_local.proofs.Lists.{All-by, contains_cases, contains_map, contains_none}
 use Rattle.hp_defs.specs.declared.names.Constant.{Constant}
 use Rattle.hp_defs.specs.Names.{NameList, constant_name, constant_words, words}
 use Rattle.hp_norm.specs.Laws.{AgreeOnConstants}
 use Rattle.hp_norm.specs.Lines.{constants_of}
 use Rattle.hp_terms.specs.Words.{numbered}
-use Rattle.hp_chain.specs.Structures.{const_values}
-
--- words with values, in their order
-abbrev pub environment : List Word → Values → Environment
-environment ws w = constant (const_values ws w)
-
--- distinct words have the values at their places
-pub words_agree : (ws : List Word) (w : Values) → AreDistinct ws → Agrees ws w (environment ws w)
-words_agree [] w once k word e = absurd (cc)
-words_agree (a ∷ ws) [] once k word e = refl
-words_agree (a ∷ ws) (x ∷ xs) once zero word e =
-    let same : a ≡ word = ap (λ (o : Option Word). elim o [ None ↦ a | Some b ↦ b ]) e in
-    ap (λ b. cond b x (environment ws xs word)) (subst (λ (b : Word). bytes_eq a b ≡ true) same (text_same a))
-words_agree (a ∷ ws) (x ∷ xs) once (suc k) word e = ap (λ b. cond b x (environment ws xs word)) (absent a ws k word once.0 e) ∙ words_agree ws xs once.1 k word e
+use Rattle.hp_class.specs.Frame.{environment}
 
 -- words in front have the values that they have alone
 pub front_same : (ws more : List Word) (w : Values) (word : Word) → Contains ws word → environment (ws ++ more) w word ≡ environment ws w word

@@ -1,26 +1,39 @@
 -- What the calls answer.
-use Rattle.std.specs.Prelude.{◌≡◌, ℕ, Result, Ok, Err}
+use Rattle.std.specs.Prelude.{◌≡◌, List, Some, None, Result, Ok, Err}
 use Rattle.hp_tree.specs.declared.problem.Problem.{Problem}
 use Rattle.hp_lit.specs.declared.refusal.GroundErr.{GroundErr}
 use Rattle.hp_lit.specs.declared.refusal.GroundErr.TheVariants as ground
 use Rattle.hp_defs.specs.declared.names.Ground.{Ground}
-use Rattle.hp_defs.specs.Fit.{IsFitNames}
-use Rattle.hp_base.specs.Making.{Maker}
-use Rattle.hp_base.specs.Congruence.{congruence_at}
-use Rattle.hp_norm.specs.Lines.{signatures_from}
-use Rattle.hp_chain.specs.Ground.{ground_of}
+use Rattle.hp_norm.specs.declared.flat.FlatClause.{FlatClause}
+use Rattle.hp_norm.specs.Flat.{flat_of}
+use Rattle.hp_groups.specs.Rules.{first_refused}
+use Rattle.hp_groups.specs.Groups.{groups_made}
+use Rattle.hp_chain.specs.declared.answer.ChainErr.{ChainErr}
+use Rattle.hp_chain.specs.declared.answer.ChainErr.TheVariants as refusal
+use Rattle.hp_chain.specs.declared.chain.Chain.{Chain}
+use Rattle.hp_chain.specs.declared.chain.Classified.{Classified}
+use Rattle.hp_chain.specs.Ground.{IsGroundOf, chain_of, ground_of}
 
--- the ground set that the problem has, or the first limit that it passes
-abbrev pub GroundMade : Problem → Result Ground GroundErr → Type 0
-GroundMade p (Ok g) = ground_of p ≡ Ok g
-GroundMade p (Err (ground.Limit l)) = ground_of p ≡ Err l
-GroundMade p (Err ground.Memory) = Unit {0}
+-- the groups of a problem in the order of their turns, over the ground set of its clauses without variables
+pub record IsChainOf (p : Problem) (chain : Chain) (base : Ground) : Type 0 where
+  pub flats : List FlatClause
+  pub named : flat_of p ≡ Ok (flats, base)
+  pub taken : first_refused base.names flats ≡ None
+  pub groups : chain.groups ≡ chain_of p flats base
 
--- the names that the problem declares, with definitions that fit
-pub record HasNamesOf (p : Problem) (g : Ground) : Type 0 where
-  pub declared : g.names.signatures ≡ signatures_from 1 p.decls
-  pub fit : IsFitNames g.names
+-- the chain that the problem has, or why it has none
+abbrev pub ClassifiedAs : Problem → Result Classified ChainErr → Type 0
+ClassifiedAs p (Ok made) = IsChainOf p made.chain made.ground
+ClassifiedAs p (Err refusal.Memory) = Unit {0}
+ClassifiedAs p (Err e) = ground_of p ≡ Err e
 
--- the line of the applications at two places
-abbrev pub line_at : ℕ → ℕ × ℕ → Maker (Unit {0})
-line_at func pair = congruence_at func pair.0 pair.1
+-- the groups of a problem, and the ground set that they have made
+pub record HasChain (p : Problem) (chain : Chain) (g : Ground) : Type 0 where
+  pub ground : IsGroundOf p g
+  pub groups : chain.groups ≡ chain_of p ground.flats ground.base
+
+-- the ground set that the problem has, or the limit that its groups pass first
+abbrev pub DescendedAs : Problem → Chain → Result Ground GroundErr → Type 0
+DescendedAs p chain (Ok g) = HasChain p chain g
+DescendedAs p chain (Err (ground.Limit l)) = ground_of p ≡ Err (refusal.Limit l)
+DescendedAs p chain (Err ground.Memory) = Unit {0}

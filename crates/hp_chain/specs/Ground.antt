@@ -1,38 +1,61 @@
--- The ground set of a problem: the lines of its clauses, and then, function by function, those of each two of its applications.
-use Rattle.std.specs.Prelude.{ℕ, List, [], ◌∷◌, ◌++◌, nat_eq, if◌then◌else◌, Option, Some, None, Result, Ok, slice_get}
-use Rattle.hp_num.specs.Wide.{◌>>=◌}
-use Rattle.hp_tree.specs.declared.limit.Limit.{Limit}
+-- The ground set of a problem: the lines of its clauses without variables, and then those of its groups, one after the other.
+use Rattle.std.specs.Prelude.{◌≡◌, ℕ, ◌<◌, ◌^◌, List, Option, Some, None, Result, Ok, Err, length}
+use Rattle.hp_tree.specs.declared.limit.Limit.{Limit as limit}
 use Rattle.hp_tree.specs.declared.problem.Problem.{Problem}
-use Rattle.hp_lit.specs.declared.line.Body.{Body}
-use Rattle.hp_lit.specs.declared.line.Body.TheVariants.{Apply, Sum}
-use Rattle.hp_lit.specs.declared.line.Def.{Def}
+use Rattle.hp_lit.specs.declared.refusal.GroundErr.{GroundErr}
+use Rattle.hp_lit.specs.declared.refusal.GroundErr.TheVariants as ground
 use Rattle.hp_defs.specs.declared.names.Ground.{Ground}
-use Rattle.hp_defs.specs.declared.names.Signature.{Signature}
-use Rattle.hp_base.specs.Making.{Maker, in_turn}
-use Rattle.hp_base.specs.Congruence.{Point, congruence_of}
-use Rattle.hp_norm.specs.Lines.{ended, named_of}
-use Rattle.hp_chain.specs.Order.{function_order, pairs}
+use Rattle.hp_norm.specs.declared.flat.FlatClause.{FlatClause}
+use Rattle.hp_norm.specs.Flat.{IsFlattenable, flat_of}
+use Rattle.hp_sorts.specs.Limits.{passed}
+use Rattle.hp_groups.specs.declared.group.Group.{Group}
+use Rattle.hp_groups.specs.declared.refused.Refused.{Refused}
+use Rattle.hp_groups.specs.Rules.{first_refused}
+use Rattle.hp_groups.specs.Groups.{groups_made, groups_of}
+use Rattle.hp_chain.specs.declared.answer.ChainErr.{ChainErr}
+use Rattle.hp_chain.specs.declared.answer.ChainErr.TheVariants as refusal
+use Rattle.hp_chain.specs.Order.{function_order}
 
-abbrev pub body_point : ℕ → Def → Body → List Point
-body_point func d (Apply g args) = if nat_eq g func then record { name = d.name; args = args } ∷ [] else []
-body_point func d (Sum lin) = []
+-- the groups of the functions of a problem, in the order of their turns
+abbrev pub chain_of : Problem → List FlatClause → Ground → List Group
+chain_of p flats base = groups_of flats base.names.signatures (function_order p.decls)
 
--- the applications of a function, in the order of their making
-abbrev pub points : ℕ → List Def → List Point
-points func [] = []
-points func (d ∷ ds) = body_point func d d.body ++ points func ds
+abbrev pub levelled : Result (Unit {0} × Ground) limit → Result Ground ChainErr
+levelled (Ok x) = Ok x.1
+levelled (Err l) = Err (refusal.Limit l)
 
-abbrev pub pair_line : Signature → Point × Point → Maker (Unit {0})
-pair_line signature pair = congruence_of signature pair.0 pair.1
+abbrev pub grouped : Problem → List FlatClause → Ground → Option Refused → Result Ground ChainErr
+grouped p flats base (Some r) = Err (refusal.Refused r)
+grouped p flats base None = levelled (groups_made (chain_of p flats base) base)
 
-abbrev pub signature_lines : ℕ → Option Signature → Maker (Unit {0})
-signature_lines func None g = Ok (tt, g)
-signature_lines func (Some signature) g = in_turn (pair_line signature) (pairs (points func g.names.definitions)) g
+abbrev pub flattened : Problem → Result (List FlatClause × Ground) limit → Result Ground ChainErr
+flattened p (Ok x) = grouped p x.0 x.1 (first_refused x.1.names x.0)
+flattened p (Err l) = Err (refusal.Limit l)
 
--- the lines of a function
-abbrev pub function_lines : ℕ → Maker (Unit {0})
-function_lines func g = signature_lines func (slice_get g.names.signatures func) g
+-- the ground set of a problem, or why it has none: the first limit that its clauses pass, then the first clause that can't be
+-- taken, and then the first limit that its groups pass
+abbrev pub ground_of : Problem → Result Ground ChainErr
+ground_of p = flattened p (flat_of p)
 
--- the ground set of a problem without variables, or the first limit that is passed
-abbrev pub ground_of : Problem → Result Ground Limit
-ground_of p = named_of p >>= λ g. ended (in_turn function_lines (function_order p.decls) g)
+-- what ends the making of a ground set, as why there is none
+abbrev pub refusal_from : GroundErr → ChainErr
+refusal_from (ground.Limit l) = refusal.Limit l
+refusal_from ground.Memory = refusal.Memory
+
+-- why it has none
+abbrev pub refusal_in : Result Ground ChainErr → Option ChainErr
+refusal_in (Ok g) = None
+refusal_in (Err e) = Some e
+
+abbrev pub refusal_of : Problem → Option ChainErr
+refusal_of p = refusal_in (ground_of p)
+
+-- the ground set of a problem whose names and sorts are right, which is light and has few arguments
+pub record IsGroundOf (p : Problem) (g : Ground) : Type 0 where
+  pub able : IsFlattenable p
+  pub limits : passed p ≡ None
+  pub flats : List FlatClause
+  pub base : Ground
+  pub named : flat_of p ≡ Ok (flats, base)
+  pub taken : first_refused base.names flats ≡ None
+  pub made : groups_made (chain_of p flats base) base ≡ Ok (tt, g)

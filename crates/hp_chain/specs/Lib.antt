@@ -1,9 +1,6 @@
+pub mod Slots
 pub mod Order
 pub mod Ground
 pub mod Structures
 pub mod Laws
-pub mod Places
-pub mod Small
-pub mod Kept
 pub mod Answers
-pub mod Few

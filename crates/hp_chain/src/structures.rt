@@ -1,59 +1,82 @@
 //! The structure that values of names give.
-ghost use Rattle.std.specs.Prelude.{◌≡◌, ◌<◌, ◌≤◌, ◌^◌, IfOk, ℕ, Some, false, length, map, slice_get};
-ghost use Rattle.std.specs.List.{All, list_any};
-ghost use Rattle.hp_lit.specs.Sorts.{AreOfSorts};
-ghost use Rattle.hp_defs.specs.declared.names.Signature.{Signature};
-ghost use Rattle.hp_defs.specs.Fit.{IsFitNames};
-ghost use Rattle.hp_defs.specs.Names.{constant_name};
-ghost use Rattle.hp_local.specs.Free.{free_table};
-ghost use Rattle.hp_norm.specs.Lines.{signatures_from};
-ghost use Rattle.hp_sorts.specs.Limits.{has_many_arguments};
-ghost use Rattle.hp_chain.specs.Small.{AreSmallIdx, HasFewArguments, HasSmallSums};
-ghost use Rattle.hp_chain.specs.Structures.{const_values, facts_of, structure_of, tables_from};
+ghost use Rattle.std.specs.Prelude.{◌≡◌, ◌≤◌, IfOk, length, map};
+ghost use Rattle.hp_lit.specs.Sorts.{AreOfSorts, HaveSorts};
+ghost use Rattle.hp_defs.specs.Names.{constant_name, sorts};
+ghost use Rattle.hp_class.specs.Frame.{const_values};
+ghost use Rattle.hp_class.specs.Small.{AreSmallIdx};
+ghost use Rattle.hp_chain.specs.Answers.{HasChain};
+ghost use Rattle.hp_chain.specs.Ground.{IsGroundOf};
+ghost use Rattle.hp_chain.specs.Structures.{structure_of, tables_from};
 
-use crate::order::levels;
-use crate::tables::table;
-use hp_defs::{Constant, Names};
+use crate::chain::Chain;
+use crate::declared::in_order;
+use crate::order::{function_order, levels};
+use hp_class::{TablesErr, ascend_groups};
+use hp_defs::{Constant, Ground};
 use hp_lit::Valuation;
 use hp_model::{ConstValue, Structure, Table};
 use hp_num::{Frac, List};
 use hp_rank::ranked;
-use hp_tree::{Decl, Sort};
+use hp_tree::{Problem, Sort};
 use std::alloc::{AllocError, Global};
 
 /// The structure that values of names give. Its universe has null and the values of pointers by rank; each constant has its
-/// value, in the order of declarations; and each function, in that order, has a table with a row for each of its
-/// applications in the order of their making, equal arguments once, and 0 elsewhere.
+/// value, in the order of declarations; and each function, in that order, has the table of its class: a free function a row
+/// for each of its applications in the order of their making, equal arguments once, and 0 elsewhere; a monotone function the
+/// step function through its applications.
 ///
-/// It asks for the names that these declarations give, with definitions that fit, for functions with at most 4 arguments,
-/// and for values of the names' sorts, of which those of sort idx have magnitudes of at most 10^37. `Err` says that memory
-/// was wanting.
-pub fn structure(
+/// It asks for the groups that have made the ground set, the sorts of its names, and values of these sorts, of which those of
+/// sort idx have magnitudes of at most 10^37. `Err` says that memory was wanting.
+pub fn ascend(
     alloc: Global,
-    decls: &[Decl],
-    names: &Names,
+    p: &Problem,
+    chain: &Chain,
+    g: &Ground,
     sorts: &[Sort],
     values: &Valuation,
 ) -> Result<Structure, AllocError>
-    requires declared { names.now.signatures ≡ signatures_from 1 decls.now }
-    requires arguments { list_any has_many_arguments decls.now ≡ false }
-    requires fit { IsFitNames names.now }
-    requires sorts { sorts.now ≡ Rattle.hp_defs.specs.Names.sorts names.now }
+    requires chain { HasChain p.now chain.now g.now }
+    requires sorts { sorts.now ≡ Rattle.hp_defs.specs.Names.sorts g.now.names }
     requires sorted { AreOfSorts sorts.now values.now.values }
     requires small { AreSmallIdx sorts.now values.now.values }
-    ensures { IfOk result (λ made. made ≡ structure_of names.now values.now.values) }
+    ensures { IfOk result (λ made. (is : IsGroundOf p.now g.now) → made ≡ structure_of is.flats g.now.names values.now.values) }
 {
-    let first = names.count() as usize;
-    let count = levels(alloc, decls)?.len();
-    let by_rank = ranked(alloc, first, sorts, values)?;
+    let names = &g.names;
+    let by_rank = ranked(alloc, names.count() as usize, sorts, values)?;
     let ranks = by_rank.values.values.as_slice();
     let consts = const_values(alloc, names.constants(), ranks)?;
-    let tables = tables(alloc, names, count, ranks)?;
+    let tables = tables(alloc, p, chain, g, by_rank.universe, ranks)?;
     Ok(Structure {
         universe: by_rank.universe,
         consts,
         tables,
     })
+}
+
+/// The tables of the functions in the order of declarations, in a universe of so many pointers and at values of the names.
+fn tables(
+    alloc: Global,
+    p: &Problem,
+    chain: &Chain,
+    g: &Ground,
+    size: u32,
+    values: &[Frac],
+) -> Result<List<Table>, AllocError>
+    requires chain { HasChain p.now chain.now g.now }
+    requires sorted { HaveSorts (sorts g.now.names) values.now }
+    requires small { AreSmallIdx (sorts g.now.names) values.now }
+    ensures { IfOk result (λ made. (is : IsGroundOf p.now g.now) → made ≡ tables_from is.flats size 0 g.now.names.signatures g.now.names values.now) }
+{
+    let groups = chain.groups.as_slice();
+    let made = match ascend_groups(alloc, groups, size, &g.names, values) {
+        Ok(made) => made,
+        // Groups of these classes are always ready.
+        Err(TablesErr::Slope(_)) => unreachable!(),
+        Err(TablesErr::Memory) => return Err(AllocError),
+    };
+    let levels = levels(alloc, p.decls.as_slice())?;
+    let order = function_order(alloc, levels.as_slice())?;
+    in_order(alloc, levels.len(), order.as_slice(), made)
 }
 
 /// The values of the constants, in the order of declarations.
@@ -74,49 +97,4 @@ fn const_values(
         })?;
     }
     Ok(consts)
-}
-
-/// The tables of the functions, of which there are so many.
-#[tactic(auto, using(crate::proofs::OneByOne::tables_start, crate::proofs::OneByOne::tables_end))]
-fn tables(
-    alloc: Global,
-    names: &Names,
-    count: usize,
-    values: &[Frac],
-) -> Result<List<Table>, AllocError>
-    requires count { count ≡ length names.now.signatures }
-    requires few { count < 2 ^ 32 }
-    requires arguments { All HasFewArguments names.now.signatures }
-    requires small { All (HasSmallSums values.now) names.now.definitions }
-    ensures { IfOk result (λ made. made ≡ tables_from 0 names.now.signatures names.now values.now) }
-{
-    let mut made = List::new(alloc);
-    for func in 0..count {
-        made.push(function_table(alloc, names, func as u32, values)?)?;
-    }
-    Ok(made)
-}
-
-/// The table of a function by its place in the order of declarations, counted from 0.
-fn function_table(
-    alloc: Global,
-    names: &Names,
-    func: u32,
-    values: &[Frac],
-) -> Result<Table, AllocError>
-    requires known { func < length names.now.signatures }
-    requires arguments { All HasFewArguments names.now.signatures }
-    requires small { All (HasSmallSums values.now) names.now.definitions }
-    ensures { IfOk result (λ made. (s : Signature) → slice_get names.now.signatures func ≡ Some s → made ≡ free_table s.name (length s.args) (facts_of func s.name names.now values.now)) }
-{
-    let signature = names.signature(func);
-    let args = signature.args.len() as u8;
-    table(
-        alloc,
-        &signature.name,
-        args,
-        names.definitions(),
-        names.of_function(func),
-        values,
-    )
 }

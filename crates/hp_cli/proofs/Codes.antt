@@ -1,7 +1,7 @@
 -- Statuses: each is told by its number, and those of a task are no faults.
 use Rattle.std.proofs.Common.{◌≡◌, ◌⊎◌, inl, inr, ℕ, List, refl, sym, subst, ◌∙◌, arith}
 use Rattle.hp_cli.specs.declared.answer.Status.{Status}
-use Rattle.hp_cli.specs.declared.answer.Status.TheVariants.{Done, Usage, ReadFault, WriteFault, Spelling, Sort, Limit, Overflow, Sat, Spent, Memory, NotBuilt, Unsat}
+use Rattle.hp_cli.specs.declared.answer.Status.TheVariants.{Done, Usage, ReadFault, WriteFault, Spelling, Sort, Outside, Limit, Overflow, Sat, Spent, Memory, NotBuilt, Unsat}
 use Rattle.hp_cli.specs.declared.words.Task.{Task}
 use Rattle.hp_cli.specs.declared.words.Task.TheVariants.{Solve, Print}
 use Rattle.hp_cli.specs.Answer.{Does, IsWhole, code, memory, read, write}
@@ -15,6 +15,7 @@ same_code ReadFault ReadFault e = refl
 same_code WriteFault WriteFault e = refl
 same_code Spelling Spelling e = refl
 same_code Sort Sort e = refl
+same_code Outside Outside e = refl
 same_code Limit Limit e = refl
 same_code Overflow Overflow e = refl
 same_code Sat Sat e = refl

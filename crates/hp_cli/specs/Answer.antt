@@ -3,12 +3,12 @@ use Rattle.std.specs.Prelude.{◌≡◌, ◌⊎◌, ℕ, List, [], ◌++◌, IfS
 use Rattle.std.specs.declared.option.Option.{Option}
 use Rattle.std.specs.Io.KnownBytes.{Appends}
 use Rattle.hp_cli.specs.declared.answer.Status.{Status}
-use Rattle.hp_cli.specs.declared.answer.Status.TheVariants.{Done, Usage, ReadFault, WriteFault, Spelling, Sort, Limit, Overflow, Sat, Spent, Memory, NotBuilt, Unsat}
+use Rattle.hp_cli.specs.declared.answer.Status.TheVariants.{Done, Usage, ReadFault, WriteFault, Spelling, Sort, Outside, Limit, Overflow, Sat, Spent, Memory, NotBuilt, Unsat}
 use Rattle.hp_cli.specs.declared.words.Task.{Task}
 use Rattle.hp_cli.specs.declared.words.Task.TheVariants.{Solve, Print}
 use Rattle.hp_cli.specs.Words.{Asks, IsUsage}
 use Rattle.hp_cli.specs.Refusals.{usage_text}
-use Rattle.hp_cli.specs.Verdicts.{Limited, Missorted, Misspelled, OtherForm, OutOfNodes, Printed, Satisfiable, Strained, TooLong, TooMany, Unsatisfiable}
+use Rattle.hp_cli.specs.Verdicts.{Limited, Missorted, Misspelled, OtherForm, OutOfNodes, Printed, Satisfiable, Strained, TooLong, TooMany, Unruly, Unsatisfiable}
 
 -- the exit status
 abbrev pub code : Status → ℕ
@@ -18,6 +18,7 @@ code ReadFault = 3
 code WriteFault = 4
 code Spelling = 5
 code Sort = 6
+code Outside = 7
 code Limit = 8
 code Overflow = 9
 code Sat = 10
@@ -34,11 +35,13 @@ pub data Does (bytes text : List ℕ) : Task → Status → Type 0 where
   misspelled : {task : Task} → Misspelled bytes text → Does bytes text task Spelling
   -- printing asks for no more
   printed : Printed bytes text → Does bytes text Print Done
-  -- solving asks for names and sorts, for the limits of a text, for the form, and for the limits of names and of numbers
+  -- solving asks for names and sorts, for the limits of a text, and for a ground set: for the limits of names and of numbers of the
+  -- clauses, for the rules of the profile and forms that are decided, and for the limits of instances
   missorted : {most : ℕ} → Missorted bytes text → Does bytes text (Solve most) Sort
   too_many : {most : ℕ} → TooMany bytes text → Does bytes text (Solve most) Limit
-  other_form : {most : ℕ} → OtherForm bytes text → Does bytes text (Solve most) NotBuilt
   limited : {most : ℕ} → Limited bytes text → Does bytes text (Solve most) Limit
+  unruly : {most : ℕ} → Unruly bytes text → Does bytes text (Solve most) Outside
+  other_form : {most : ℕ} → OtherForm bytes text → Does bytes text (Solve most) NotBuilt
   strained : {most : ℕ} → Strained bytes text → Does bytes text (Solve most) Overflow
   satisfiable : {most : ℕ} → Satisfiable bytes text → Does bytes text (Solve most) Sat
   unsatisfiable : {most : ℕ} → Unsatisfiable bytes text → Does bytes text (Solve most) Unsat

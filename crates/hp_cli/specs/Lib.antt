@@ -1,7 +1,6 @@
 pub mod Words
 pub mod Transfer
 pub mod Refusals
-pub mod NotBuilt
 pub mod Verdicts
 pub mod Answer
 pub mod Laws

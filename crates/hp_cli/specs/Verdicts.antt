@@ -24,11 +24,13 @@ use Rattle.hp_cert.specs.Refutes.{Refutes}
 use Rattle.hp_cert.specs.Spelled.{IsSpelled}
 use Rattle.hp_descent.specs.declared.answer.Strain.{Strain}
 use Rattle.hp_search.specs.Search.{IsHonestStrain}
-use Rattle.hp_chain.specs.Laws.{IsGroundOf, limit_of}
+use Rattle.hp_groups.specs.declared.refused.Outside.{Outside}
+use Rattle.hp_groups.specs.declared.refused.Refused.TheVariants as refused
+use Rattle.hp_chain.specs.declared.answer.ChainErr.TheVariants as refusal
+use Rattle.hp_chain.specs.Ground.{IsGroundOf, refusal_of}
 use Rattle.hp_cert.specs.Overflow.{overflow_text}
-use Rattle.hp_cli.specs.NotBuilt.{IsBuilt, IsNotBuilt}
 use Rattle.hp_tree.specs.Limits.{most_bytes}
-use Rattle.hp_cli.specs.Refusals.{line, limit_text, not_built_text, sort_text, spelling_text}
+use Rattle.hp_cli.specs.Refusals.{line, limit_text, not_built_text, outside_text, sort_text, spelling_text}
 
 -- ---- how far an input comes
 -- at most 1,048,576 bytes, and they spell the problem
@@ -46,12 +48,11 @@ pub record IsCounted (bytes : List ℕ) (p : Problem) : Type 0 where
   pub sorted : IsSorted bytes p
   pub counted : passed p ≡ None
 
--- Its form is decided, and its ground set passes no limit: it has at most 4,000 constants and definitions and 50,000 lines,
--- and no number of a normal form passes 2^127 - 1. These are the texts that get a verdict, or a strain.
+-- It has a ground set: each clause with variables can be taken, and the ground set passes no limit, with at most 4,000 constants
+-- and definitions, 50,000 lines, and no number of a normal form above 2^127 - 1. These are the texts that get a verdict, or a strain.
 pub record InScope (bytes : List ℕ) (p : Problem) : Type 0 where
   pub counted : IsCounted bytes p
-  pub built : IsBuilt p
-  pub within : limit_of p ≡ None
+  pub within : refusal_of p ≡ None
 
 -- ---- refusals
 pub record Misspelled (bytes text : List ℕ) : Type 0 where
@@ -85,16 +86,23 @@ pub record TooMany (bytes text : List ℕ) : Type 0 where
 pub record Limited (bytes text : List ℕ) : Type 0 where
   pub problem : Problem
   pub counted : IsCounted bytes problem
-  pub built : IsBuilt problem
   pub passed_limit : Limit
-  pub cause : limit_of problem ≡ Some passed_limit
+  pub cause : refusal_of problem ≡ Some (refusal.Limit passed_limit)
   pub written : text ≡ limit_text passed_limit
 
--- a form that isn't decided so far
+-- a clause breaks a rule of the profile, and no clause before it breaks one or is of a form that isn't decided so far
+pub record Unruly (bytes text : List ℕ) : Type 0 where
+  pub problem : Problem
+  pub counted : IsCounted bytes problem
+  pub broken : Outside
+  pub cause : refusal_of problem ≡ Some (refusal.Refused (refused.Outside broken))
+  pub written : text ≡ outside_text broken
+
+-- a clause is of a form that isn't decided so far, and no clause before it breaks a rule
 pub record OtherForm (bytes text : List ℕ) : Type 0 where
   pub problem : Problem
   pub counted : IsCounted bytes problem
-  pub other : IsNotBuilt problem
+  pub cause : refusal_of problem ≡ Some (refusal.Refused refused.NotBuilt)
   pub written : text ≡ not_built_text
 
 -- ---- answers

@@ -15,6 +15,8 @@ pub enum Status {
     Spelling,
     /// An item breaks a rule on names and sorts.
     Sort,
+    /// A clause breaks a rule of the profile.
+    Outside,
     /// A limit is passed.
     Limit,
     /// A number passes 2^127 - 1 on the way to a verdict.
@@ -46,6 +48,7 @@ impl Status {
             Status::WriteFault => 4,
             Status::Spelling => 5,
             Status::Sort => 6,
+            Status::Outside => 7,
             Status::Limit => 8,
             Status::Overflow => 9,
             Status::Sat => 10,

@@ -16,8 +16,8 @@ use crate::refusals;
 use crate::words::Task;
 use hp_cert::{Refutation, body, overflow_text, write};
 use hp_grammar::ReadErr;
+use hp_groups::Refused;
 use hp_model::{Structure, write_structure};
-use hp_norm::is_waiting;
 use hp_num::Text;
 use hp_read::read;
 use hp_roundtrip::reprint;
@@ -159,14 +159,16 @@ fn settle(alloc: Global, bytes: &[u8], problem: &Problem, most: u64) -> Result<A
     requires most { 1 ≤ most }
     ensures { IfOk result (λ answer. Does bytes.now answer.text (Task.Solve most) answer.status) }
 {
-    if is_waiting(problem) {
-        return Ok(Answer {
-            text: refusals::not_built(alloc)?,
-            status: Status::NotBuilt,
-        });
-    }
     match solve(alloc, problem, most) {
         Solved::Memory => Err(AllocError),
+        Solved::Refused(Refused::Outside(outside)) => Ok(Answer {
+            text: refusals::outside(alloc, outside)?,
+            status: Status::Outside,
+        }),
+        Solved::Refused(Refused::NotBuilt) => Ok(Answer {
+            text: refusals::not_built(alloc)?,
+            status: Status::NotBuilt,
+        }),
         Solved::Limit(limit) => Ok(Answer {
             text: refusals::limit(alloc, limit)?,
             status: Status::Limit,

@@ -1,21 +1,12 @@
 -- The ground set of a problem has what the search and the texts ask.
-use Rattle.std.proofs.Common.{◌≡◌, ℕ, zero, suc, ◌<◌, ◌≤◌, ◌^◌, ◌+◌, List, [], ◌∷◌, Bool, true, false, cond, nat_lt, Option, Some, None, length, refl, sym, subst, map, arith}
-use Rattle.std.specs.Prelude.{slice_get, Ok}
+use Rattle.std.proofs.Common.{◌≡◌, ◌∙◌, ℕ, zero, suc, ◌<◌, ◌+◌, List, [], ◌∷◌, Some, length, refl, sym, subst, map, arith}
+use Rattle.std.specs.Prelude.{slice_get}
 use Rattle.std.specs.List.{All}
-use Rattle.std.proofs.lemmas.Bool.{ltb-false}
 use Rattle.std.proofs.lemmas.List.Elements.{All-nil, All-cons, All-head, All-tail}
-use Rattle.hp_tree.specs.Limits.{most_clauses}
-use Rattle.hp_tree.specs.declared.limit.Limit.{Limit}
-use Rattle.hp_tree.specs.declared.limit.Which.TheVariants.{Clauses}
 use Rattle.hp_tree.specs.declared.problem.Decl.{Decl}
 use Rattle.hp_tree.specs.declared.problem.Decl.TheVariants.{Const, Fun}
 use Rattle.hp_tree.specs.declared.problem.Problem.{Problem}
-use Rattle.hp_terms.specs.Weight.{IsLight}
-use Rattle.hp_terms.specs.Words.{IsPlain, declared_word}
-use Rattle.hp_sorts.specs.Faults.{sort_fault}
-use Rattle.hp_sorts.specs.Limits.{limit, passed}
-use Rattle.hp_norm.specs.Waiting.{is_waiting}
-use Rattle.hp_chain.specs.Ground.{ground_of}
+use Rattle.hp_terms.specs.Words.{declared_word}
 use Rattle.hp_lit.specs.declared.line.Body.{Body}
 use Rattle.hp_lit.specs.declared.line.Body.TheVariants.{Apply, Sum}
 use Rattle.hp_lit.specs.declared.line.Def.{Def}
@@ -28,8 +19,11 @@ use Rattle.hp_cert.specs.Lines.{function_name}
 use Rattle.hp_cert.specs.Named.{AreNamed, BodyIsNamed, DefIsNamed}
 use Rattle.hp_cert.specs.Spelled.{AreOnOneLine, FunctionIsOnOneLine, IsOnOneLine, IsOther}
 use Rattle.hp_norm.specs.Lines.{constants_of, signatures_from}
-use Rattle.hp_chain.specs.Laws.{IsGroundOf}
-use Rattle.hp_chain.proofs.ValuesGround.{is_chained}
+use Rattle.hp_chain.specs.Ground.{IsGroundOf, chain_of}
+use Rattle.hp_class.proofs.GroupsMade.{groups_are_sound}
+use Rattle.hp_groups.specs.declared.group.Group.{Group}
+use Rattle.hp_groups.specs.contracts.group.GroupLocalClass.TheImpl.{ghosts}
+use Rattle.hp_chain.proofs.ValuesDescended.{descended, flattened}
 use Rattle.hp_solve.specs.Solved.{AreNamesOnOneLine}
 
 -- ---- definitions are of declared functions
@@ -86,24 +80,18 @@ names_declared p names cs ss h =
       functions = all_by_place (λ (d : Def). FunctionIsOnOneLine names d.body) names.definitions (λ k d at. body_on_one_line names d.body signed);
     }
 
+-- the declared names of a ground set are those of its problem
+record HasDeclared (p : Problem) (names : NameList) : Type 0 where
+  constants : names.constants ≡ constants_of p.decls
+  signatures : names.signatures ≡ signatures_from 1 p.decls
+
+has_declared : (p : Problem) (g : Ground) → IsGroundOf p g → HasDeclared p g.names
+has_declared p g is =
+    let said = flattened p g is in
+    let made = groups_are_sound Group ghosts.grow_of ghosts.own ghosts.applied ghosts.clauses ghosts.plan_of ghosts.IsLent (chain_of p is.flats is.base) is.base g (descended p g is) in
+    record { constants = made.begins.constants ∙ said.constants; signatures = made.begins.signatures ∙ said.signatures }
+
 pub names_on_one_line : (p : Problem) (g : Ground) → IsGroundOf p g → AreNamesOnOneLine p → AreOnOneLine g.names
 names_on_one_line p g is h =
-    let chained = is_chained p g is in
-    subst AreOnOneLine (sym chained.adds.kept) (names_declared p chained.base.names chained.made.constants chained.made.signatures h)
-
--- ---- what the limits of a text say
-first : (a : Bool) (x : Limit) (rest : Option Limit) → cond a (Some x) rest ≡ None → a ≡ false
-first true x rest e = absurd (cc)
-first false x rest e = refl
-
-pub few_clauses : (p : Problem) → passed p ≡ None → length p.clauses ≤ most_clauses
-few_clauses p h = ltb-false most_clauses (length p.clauses) (first (nat_lt most_clauses (length p.clauses)) (limit Clauses most_clauses) _ h)
-
--- ---- the ground set that was made
-pub is_ground : (p : Problem) (g : Ground) → sort_fault p ≡ None → is_waiting p ≡ false → IsLight p → IsPlain p → length p.decls < 2 ^ 28 → passed p ≡ None → ground_of p ≡ Ok g
-    → IsGroundOf p g
-is_ground p g sorted ready light plain few limits made = record {
-  nameable = record { sorted = sorted; ready = ready; light = light; plain = plain; few = omega (arith, few) };
-  limits = limits;
-  made = made;
-}
+    let has = has_declared p g is in
+    names_declared p g.names has.constants has.signatures h

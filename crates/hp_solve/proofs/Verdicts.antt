@@ -10,14 +10,14 @@ use Rattle.hp_leaf.proofs.Closing as closing
 use Rattle.hp_model.specs.declared.structure.Structure.{Structure}
 use Rattle.hp_model.specs.Satisfies.{Satisfies}
 use Rattle.hp_search.specs.Search.{IsModelAt}
-use Rattle.hp_chain.specs.Laws.{IsGroundOf}
+use Rattle.hp_chain.specs.Ground.{IsGroundOf}
 use Rattle.hp_chain.specs.Structures.{structure_of}
 use Rattle.hp_chain.proofs.StructuresGive.{structures_give_values}
 use Rattle.hp_chain.proofs.ValuesGive.{values_give_a_structure}
 use Rattle.hp_solve.specs.Solved.{IsInScope, IsSat}
 
-pub sat_from : (p : Problem) (g : Ground) (place : Place) (v : Valuation) (s : Structure) → IsGroundOf p g → IsInScope p
-    → IsModelAt (sorts g.names) g.lines place v → s ≡ structure_of g.names v.values → IsSat p s
+pub sat_from : (p : Problem) (g : Ground) (place : Place) (v : Valuation) (s : Structure) (ground : IsGroundOf p g) → IsInScope p
+    → IsModelAt (sorts g.names) g.lines place v → s ≡ structure_of ground.flats g.names v.values → IsSat p s
 sat_from p g place v s ground scope model e = subst (IsSat p) (sym e) (record {
   scope = scope;
   satisfied = values_give_a_structure p g ground v.values (record { sorted = model.sorted; lines = model.all });

@@ -1,22 +1,18 @@
 //! From a problem to its ground lines, from these to what a search finds, and from that to the evidence.
 
 ghost use Rattle.std.specs.Prelude.{◌≡◌, ◌<◌, ◌≤◌, ◌^◌, IfOk, None, false, ℕ, length};
-ghost use Rattle.hp_terms.specs.Weight.{IsLight};
-ghost use Rattle.hp_terms.specs.Words.{IsPlain};
 ghost use Rattle.hp_defs.specs.Names.{sorts};
 ghost use Rattle.hp_search.specs.Search.{IsCause, IsFound};
-ghost use Rattle.hp_sorts.specs.Faults.{sort_fault};
 ghost use Rattle.hp_sorts.specs.Limits.{passed};
-ghost use Rattle.hp_norm.specs.Waiting.{is_waiting};
-ghost use Rattle.hp_chain.specs.Answers.{HasNamesOf};
-ghost use Rattle.hp_chain.specs.Laws.{IsGroundOf};
+ghost use Rattle.hp_norm.specs.Flat.{IsFlattenable};
+ghost use Rattle.hp_chain.specs.Answers.{HasChain, IsChainOf};
 ghost use Rattle.hp_solve.specs.Solved.{IsInScope, SolvedAs};
 
 use hp_cert::{Refutation, entries};
-use hp_chain::{ground, structure};
+use hp_chain::{Chain, ChainErr, Classified, ascend, classify, descend};
 use hp_defs::{Ground, Names};
 use hp_descent::Strain;
-use hp_leaf::Node;
+use hp_groups::Refused;
 use hp_lit::{GroundErr, Name};
 use hp_model::Structure;
 use hp_num::List;
@@ -35,6 +31,9 @@ pub enum Solved {
     Spent(Refutation),
     /// A number passes 2^127 - 1 over the literals of an honest path of the search.
     Strained(Strain),
+    /// A clause can't be taken: it breaks a rule of the profile, or is of a form that isn't decided so far. It is the first
+    /// one, and the clauses pass no limit.
+    Refused(Refused),
     /// The problem passes this limit first, in the order in which its ground set is made: that of 4,000 constants and
     /// definitions, that of 50,000 lines, or that on the numbers in the computation of normal forms, none of which may pass
     /// 2^127 - 1. Its item, counted from 1 over the declarations and then the clauses, is the clause, or of a line of
@@ -59,13 +58,13 @@ fn sorts_of(alloc: Global, names: &Names) -> Result<List<Sort>, AllocError>
 fn verdict(
     alloc: Global,
     p: &Problem,
+    chain: &Chain,
     g: &Ground,
     name_sorts: &[Sort],
     most: u64,
     found: Found,
 ) -> Solved
-    requires ground { IsGroundOf p.now g.now }
-    requires names { HasNamesOf p.now g.now }
+    requires chain { HasChain p.now chain.now g.now }
     requires scope { IsInScope p.now }
     requires sorts { name_sorts.now ≡ sorts g.now.names }
     requires found { IsFound (sorts g.now.names) g.now.lines most false found }
@@ -73,13 +72,7 @@ fn verdict(
 {
     match found {
         Found::Model(solution) => {
-            match structure(
-                alloc,
-                p.decls.as_slice(),
-                &g.names,
-                name_sorts,
-                &solution.values,
-            ) {
+            match ascend(alloc, p, chain, g, name_sorts, &solution.values) {
                 Ok(structure) => Solved::Sat(structure),
                 Err(_) => Solved::Memory,
             }
@@ -96,8 +89,8 @@ fn verdict(
 }
 
 /// What a search says that gave no answer.
-fn unfinished(p: &Problem, g: &Ground, error: SearchErr) -> Solved
-    requires ground { IsGroundOf p.now g.now }
+fn unfinished(p: &Problem, chain: &Chain, g: &Ground, error: SearchErr) -> Solved
+    requires chain { HasChain p.now chain.now g.now }
     requires scope { IsInScope p.now }
     requires cause { IsCause (sorts g.now.names) g.now.lines error }
     ensures { (most : ℕ) → SolvedAs p.now most result }
@@ -109,10 +102,9 @@ fn unfinished(p: &Problem, g: &Ground, error: SearchErr) -> Solved
 }
 
 /// The verdict of a search of the ground lines of a problem.
-fn searched(alloc: Global, p: &Problem, g: &Ground, most: u64) -> Solved
+fn searched(alloc: Global, p: &Problem, chain: &Chain, g: &Ground, most: u64) -> Solved
     requires most { 1 ≤ most }
-    requires ground { IsGroundOf p.now g.now }
-    requires names { HasNamesOf p.now g.now }
+    requires chain { HasChain p.now chain.now g.now }
     requires scope { IsInScope p.now }
     ensures { SolvedAs p.now most result }
 {
@@ -120,8 +112,8 @@ fn searched(alloc: Global, p: &Problem, g: &Ground, most: u64) -> Solved
         Err(_) => Solved::Memory,
         Ok(sorts) => {
             match search(alloc, sorts.as_slice(), g.lines.as_slice(), most, false) {
-                Ok(found) => verdict(alloc, p, g, sorts.as_slice(), most, found),
-                Err(error) => unfinished(p, g, error),
+                Ok(found) => verdict(alloc, p, chain, g, sorts.as_slice(), most, found),
+                Err(error) => unfinished(p, chain, g, error),
             }
         }
     }
@@ -129,25 +121,39 @@ fn searched(alloc: Global, p: &Problem, g: &Ground, most: u64) -> Solved
 
 /// Decides a problem by a search with at most so many splits and leaves.
 ///
-/// `Limit` comes exactly where the problem passes a limit. Every other problem has a verdict or a strain, unless memory is
-/// wanting.
+/// `Refused` and `Limit` come exactly where they are the first cause that the problem has no ground set. Every other problem
+/// has a verdict or a strain, unless memory is wanting.
 ///
-/// It asks for at least one split or leaf, and for a problem whose names and sorts are right, without variables, with at most
-/// 2,000 clauses, functions of at most 4 arguments and less than 2^28 declarations, of whose names none is `_` with digits,
-/// and light: the magnitudes of the numerators of each atom add up to less than 2 * 10^24.
+/// It asks for at least one split or leaf, and for a problem whose names and sorts are right, with at most 2,000 clauses,
+/// clauses of at most 6 variables, functions of at most 4 arguments and less than 2^28 declarations, of whose names none is
+/// `_` with digits, and light: the magnitudes of the numerators of each atom add up to less than 2 * 10^24.
 pub fn solve(alloc: Global, p: &Problem, most: u64) -> Solved
     requires most { 1 ≤ most }
-    requires sorted { sort_fault p.now ≡ None }
-    requires ready { is_waiting p.now ≡ false }
-    requires plain { IsPlain p.now }
+    requires able { IsFlattenable p.now }
     requires limits { passed p.now ≡ None }
     requires items { length p.now.decls < 2 ^ 28 }
-    requires light { IsLight p.now }
     ensures { SolvedAs p.now most result }
 {
-    match ground(alloc, p) {
+    match classify(alloc, p) {
+        Err(ChainErr::Refused(refused)) => Solved::Refused(refused),
+        Err(ChainErr::Limit(limit)) => Solved::Limit(limit),
+        Err(ChainErr::Memory) => Solved::Memory,
+        Ok(classified) => descended(alloc, p, classified, most),
+    }
+}
+
+/// The verdict on a problem whose clauses are read.
+fn descended(alloc: Global, p: &Problem, classified: Classified, most: u64) -> Solved
+    requires most { 1 ≤ most }
+    requires able { IsFlattenable p.now }
+    requires limits { passed p.now ≡ None }
+    requires classified { IsChainOf p.now classified.chain classified.ground }
+    ensures { SolvedAs p.now most result }
+{
+    let Classified { chain, ground } = classified;
+    match descend(alloc, p, &chain, ground) {
         Err(GroundErr::Limit(limit)) => Solved::Limit(limit),
         Err(GroundErr::Memory) => Solved::Memory,
-        Ok(g) => searched(alloc, p, &g, most),
+        Ok(g) => searched(alloc, p, &chain, &g, most),
     }
 }

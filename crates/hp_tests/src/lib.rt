@@ -15,4 +15,6 @@ mod streams;
 #[cfg(test)]
 mod trees;
 #[cfg(test)]
+mod universal;
+#[cfg(test)]
 mod verdicts;

@@ -67,8 +67,8 @@ const FAULTS: [Run; 17] = [
     ),
 ];
 
-/// Names and sorts, limits of the text, and forms that aren't decided yet, the first cause in their order.
-const REFUSALS: [Run; 18] = [
+/// Names and sorts, limits of the text, rules of the profile, and forms that aren't decided yet, the first cause in their order.
+const REFUSALS: [Run; 21] = [
     ("solve", TRAINS, 13, "not built\n"),
     ("solve", "const c: num; const c: idx;", 6, "sort 2 twice\n"),
     ("solve", "query c < 0;", 6, "sort 1 unknown\n"),
@@ -119,6 +119,25 @@ const REFUSALS: [Run; 18] = [
     (
         "solve",
         "fun f(num): num level 1; clause [x:num] f(x) = 0; query f(1) < 0;",
+        13,
+        "not built\n",
+    ),
+    // a function of monotone shape is of num to num, and that of one clause alone; the first clause that can't be taken counts
+    (
+        "solve",
+        "fun p(num): idx level 1; clause [x:num, y:num] x <= y -> p(x) <= p(y);",
+        7,
+        "outside clause 1 rule 3\n",
+    ),
+    (
+        "solve",
+        "fun f(num): num level 1; query f(1) = 5; clause [x:num, y:num] x <= y -> f(x) <= f(y); clause [x:num, y:num] x <= y -> f(x) >= f(y); clause [x:num] f(x) = 0;",
+        7,
+        "outside clause 3 rule 4\n",
+    ),
+    (
+        "solve",
+        "fun f(num): num level 1; clause [x:num] f(x) = 0; clause [x:num, y:num] x <= y -> f(x) <= f(y); clause [x:num, y:num] x <= y -> f(x) <= f(y);",
         13,
         "not built\n",
     ),

@@ -1,4 +1,4 @@
-use Rattle.hp_chain.proofs.ValuesGround.{ground_sets_are_fit}
+use Rattle.hp_chain.proofs.FitGround.{ground_sets_are_fit}
 use Rattle.hp_chain.proofs.laws.ground_sets_are_fit.Goals as goal
 
 pub returns : goal.returns

@@ -1,31 +1,36 @@
 use Rattle.std.proofs.Common.{rules, arith}
-use Rattle.hp_cli.specs.Answer.{limited, other_form, out_of_nodes, satisfiable, strained, unsatisfiable}
-use Rattle.hp_cli.proofs.Decisions.{few_items, in_scope, is_light, is_plain}
+use Rattle.hp_cli.specs.Answer.{limited, other_form, out_of_nodes, satisfiable, strained, unruly, unsatisfiable}
+use Rattle.hp_cli.proofs.Decisions.{few_items, in_scope, is_able}
 use Rattle.hp_cli.proofs.OneLine.{names_on_one_line}
 use Rattle.hp_cli.proofs.deciding.settle.Goals as goal
+
+pub solve-requires-clause-able : goal.solve-requires-clause-able
+solve-requires-clause-able c = is_able c.args.bytes.now c.args.problem.now c.requires.counted
 
 pub solve-requires-clause-items : goal.solve-requires-clause-items
 solve-requires-clause-items c = omega (arith, few_items c.args.bytes.now c.args.problem.now c.requires.counted.sorted.read)
 
-pub solve-requires-clause-plain : goal.solve-requires-clause-plain
-solve-requires-clause-plain c = is_plain c.args.bytes.now c.args.problem.now c.requires.counted.sorted.read
-
-pub solve-requires-clause-light : goal.solve-requires-clause-light
-solve-requires-clause-light c = is_light c.args.bytes.now c.args.problem.now c.requires.counted.sorted.read
-
-pub returns-then-is_waiting : goal.returns-then-is_waiting
-returns-then-is_waiting c = other_form (record {
+pub returns-in_ok-outside-in-Refused-Outside : goal.returns-in_ok-outside-in-Refused-Outside
+returns-in_ok-outside-in-Refused-Outside c = unruly (record {
   problem = c.args.problem.now;
   counted = c.requires.counted;
-  other = search rules;
-  written = c.in_ok-not_built.ensures;
+  broken = c.in-Refused-Outside.outside;
+  cause = search rules;
+  written = c.in_ok-outside-in-Refused-Outside.ensures;
+})
+
+pub returns-in_ok-not_built-in-Refused-NotBuilt : goal.returns-in_ok-not_built-in-Refused-NotBuilt
+returns-in_ok-not_built-in-Refused-NotBuilt c = other_form (record {
+  problem = c.args.problem.now;
+  counted = c.requires.counted;
+  cause = search rules;
+  written = c.in_ok-not_built-in-Refused-NotBuilt.ensures;
 })
 
 pub returns-in_ok-limit-in-Limit : goal.returns-in_ok-limit-in-Limit
 returns-in_ok-limit-in-Limit c = limited (record {
   problem = c.args.problem.now;
   counted = c.requires.counted;
-  built = search rules;
   passed_limit = c.in-Limit.limit;
   cause = c.in-Limit.ensures;
   written = c.in_ok-limit-in-Limit.ensures;

@@ -1,6 +1,4 @@
-use Rattle.std.proofs.Common.{◌∙◌, ◌++◌, ◌∷◌, [], ℕ, suc, zero, ◌+◌, ◌≡◌, List, take, ap, refl, sym, arith}
-use Rattle.std.specs.Prelude.{Some, slice_get}
-use Rattle.std.proofs.lemmas.List.{take_all}
+use Rattle.std.proofs.Common.{◌∙◌, ◌++◌, ◌∷◌, [], List, ap, sym}
 use Rattle.hp_tree.specs.declared.problem.Sort.{Sort}
 use Rattle.hp_defs.specs.Names.{sorts}
 use Rattle.hp_solve.proofs.Sorts.{take_next}

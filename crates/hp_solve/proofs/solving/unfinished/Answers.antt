@@ -7,6 +7,6 @@ pub returns-in-Strain : goal.returns-in-Strain
 returns-in-Strain c = λ most. record {
   scope = c.requires.scope;
   lines = c.args.g.now;
-  ground = c.requires.ground;
+  ground = c.requires.chain.ground;
   strain = subst (IsCause (sorts c.args.g.now.names) c.args.g.now.lines) c.in-Strain.is c.requires.cause;
 }

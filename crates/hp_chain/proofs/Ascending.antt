@@ -1,0 +1,166 @@
+-- The tables that the groups of a problem give, in the order of declarations.
+use Rattle.std.proofs.Common.{◌≡◌, ◌∙◌, ℕ, zero, suc, ◌+◌, ◌<◌, ◌≤◌, List, [], ◌∷◌, ◌++◌, Option, Some, None, Result, Ok, Err, IfOk, length, map, refl, sym, ap, subst, add-one, arith}
+use Rattle.std.specs.Prelude.{slice_get, slice_index_or}
+use Rattle.std.specs.List.{All, flat_map, range_with_len}
+use Rattle.std.proofs.lemmas.List.{length-map}
+use Rattle.std.proofs.lemmas.List.Elements.{All-head, All-tail, All-weaker}
+use Rattle.std.proofs.lemmas.Option.{same_Some}
+use Rattle.hp_tree.specs.declared.problem.Problem.{Problem}
+use Rattle.hp_tree.specs.declared.problem.Sort.{Sort}
+use Rattle.hp_tree.specs.declared.problem.Sort.TheVariants.{Ptr}
+use Rattle.hp_tree.specs.declared.term.Term.TheVariants.{Null}
+use Rattle.hp_tree.specs.Limits.{largest_value}
+use Rattle.hp_terms.specs.Weight.{IsWithin}
+use Rattle.hp_lit.specs.Truth.{Values}
+use Rattle.hp_sorts.proofs.Faultless.{faultless_problems_are_well_sorted}
+use Rattle.hp_defs.specs.declared.names.Ground.{Ground}
+use Rattle.hp_defs.specs.declared.names.Signature.{Signature}
+use Rattle.hp_defs.specs.Names.{NameList}
+use Rattle.hp_model.specs.declared.structure.Table.{Table}
+use Rattle.hp_rank.specs.Ranks.{rank, ranked}
+use Rattle.hp_rank.proofs.Pointers.{other_name}
+use Rattle.hp_base.proofs.Making.{begins_names}
+use Rattle.hp_norm.specs.declared.flat.FlatClause.{FlatClause}
+use Rattle.hp_norm.specs.Flat.{flat_of}
+use Rattle.hp_norm.specs.Lines.{signatures_from}
+use Rattle.hp_norm.specs.Sound.{IsSound}
+use Rattle.hp_class.specs.Groups.{HasBeenMade}
+use Rattle.hp_class.specs.Small.{AreSmallIdx}
+use Rattle.hp_class.proofs.GroupsMade.{groups_are_sound}
+use Rattle.hp_groups.specs.declared.group.Group.{Group}
+use Rattle.hp_groups.specs.contracts.group.GroupLocalClass.TheImpl.{ghosts}
+use Rattle.hp_groups.specs.contracts.group.GroupLocalClass.TheImpl.Laws as laws
+use Rattle.hp_groups.specs.Groups.{group_at, group_from, groups_of}
+use Rattle.hp_groups.proofs.Classes.{one_table}
+use Rattle.hp_chain.specs.Ground.{IsGroundOf, chain_of}
+use Rattle.hp_chain.specs.Order.{function_order, levels_of}
+use Rattle.hp_chain.specs.Slots.{HasPlaces}
+use Rattle.hp_chain.specs.Structures.{tables_from}
+use Rattle.hp_chain.proofs.Chained.{chain_lent, functions_many, is_ready, order_known}
+use Rattle.hp_chain.proofs.Levels.{levels_many, order_inside}
+use Rattle.hp_chain.proofs.ValuesDeclared.{levels_within}
+use Rattle.hp_chain.proofs.ValuesDescended.{descended}
+use Rattle.hp_chain.proofs.ValuesTurns.{has_turn}
+
+-- ---- values by rank
+-- they keep those of index names
+pub ranked_small : (first : ℕ) (ss : List Sort) (v : Values) → AreSmallIdx ss v → AreSmallIdx ss (ranked first ss v)
+ranked_small first ss v small n e =
+    let apart : slice_get ss n ≡ Some Ptr → ⊥ = λ g. cc in
+    subst (λ q. IsWithin largest_value q.num) (sym (other_name (rank first ss v) ss v n apart)) (small n e)
+
+-- ---- the order of turns
+got_one : {A : Type 0} (xs : List A) (i : ℕ) → i < length xs → (x : A) × (slice_get xs i ≡ Some x)
+got_one [] i h = absurd (omega arith)
+got_one (x ∷ xs) zero h = (x, refl)
+got_one (x ∷ xs) (suc i) h = got_one xs i (omega arith)
+
+-- it has the place of each function
+pub order_places : (p : Problem) (g : Ground) → IsGroundOf p g → HasPlaces (length (levels_of p.decls)) (function_order p.decls)
+order_places p g is = record {
+  inside = order_inside 16 (levels_of p.decls);
+  whole = λ place h. (
+      let got = got_one (signatures_from 1 p.decls) place (omega (arith, h, levels_many 1 p.decls)) in
+      let level = levels_within 1 p.decls place got.0 (faultless_problems_are_well_sorted p is.able.sorted).levels got.1 in
+      has_turn p.decls place got.0 got.1 level.0 level.1);
+}
+
+-- ---- names that have grown
+module _ (p : Problem) (g : Ground) (is : IsGroundOf p g) where
+  has_been_made : HasBeenMade is.base g
+  has_been_made = groups_are_sound Group ghosts.grow_of ghosts.own ghosts.applied ghosts.clauses ghosts.plan_of ghosts.IsLent (chain_of p is.flats is.base) is.base g (descended p g is)
+
+  pub ground_sound : IsSound g
+  ground_sound = has_been_made.sound
+
+  pub ground_signatures : g.names.signatures ≡ is.base.names.signatures
+  ground_signatures = has_been_made.begins.signatures
+
+  pub ground_lent : All (λ c. ghosts.IsLent c g.names) (chain_of p is.flats is.base)
+  ground_lent =
+      All-weaker (λ (c : Group). ghosts.IsLent c is.base.names) (λ (c : Group). ghosts.IsLent c g.names)
+      (λ c lent. laws.stays_lent-law c is.base.names g.names lent (begins_names is.base g has_been_made.begins) has_been_made.sound.made)
+      (chain_of p is.flats is.base) (chain_lent p is.flats is.base is.able is.limits is.named is.taken)
+
+-- ---- tables
+module _ (clauses : List FlatClause) (size : ℕ) (names : NameList) (v : Values) where
+  -- the one table of the group of a function
+  abbrev table_with : ℕ → Option Signature → Table
+  table_with func None = record { func = []; args = 0; rows = []; otherwise = Null }
+  table_with func (Some s) = (one_table func s clauses size names v).0
+
+  abbrev pub table_at : List Signature → ℕ → Table
+  table_at ss func = table_with func (slice_get ss func)
+
+  -- groups in an order give the tables in this order
+  pub tables_in_turn : (ss : List Signature) (order : List ℕ) → All (λ func. func < length ss) order
+      → flat_map (λ c. ghosts.tables_of c size names v) (groups_of clauses ss order) ≡ map (table_at ss) order
+  tables_in_turn ss [] known = refl
+  tables_in_turn ss (func ∷ funcs) known =
+      let got = got_one ss func (All-head (λ k. k < length ss) func funcs known) in
+      let rest = groups_of clauses ss funcs in
+      let give = λ (c : Group). ghosts.tables_of c size names v in
+      ap (λ o. flat_map give (group_at clauses func o ++ rest)) got.1
+      ∙ ap (λ ts. ts ++ flat_map give rest) (one_table func got.0 clauses size names v).1
+      ∙ (λ i. table_with func (sym got.1 i) ∷ tables_in_turn ss funcs (All-tail (λ k. k < length ss) func funcs known) i)
+
+  -- the tables of functions that follow one another
+  pub tables_declared : (all ss : List Signature) (from : ℕ) → ((k : ℕ) (s : Signature) → slice_get ss k ≡ Some s → slice_get all (from + k) ≡ Some s)
+      → tables_from clauses size from ss names v ≡ map (table_at all) (range_with_len from (length ss))
+  tables_declared all [] from there = refl
+  tables_declared all (s ∷ ss) from there =
+      let here : slice_get all from ≡ Some s = (let e : from ≡ from + 0 = omega arith in ap (λ k. slice_get all k) e ∙ there 0 s refl) in
+      let next = λ (k : ℕ) (t : Signature) (e : slice_get ss k ≡ Some t). (let at : suc from + k ≡ from + suc k = omega arith in ap (λ j. slice_get all j) at ∙ there (suc k) t e) in
+      ap (λ ts. ts ++ tables_from clauses size (suc from) ss names v) (one_table from s clauses size names v).1
+      ∙ (λ i. table_with from (sym here i) ∷ tables_declared all ss (suc from) next i)
+      ∙ ap (λ k. table_at all from ∷ map (table_at all) (range_with_len k (length ss))) (sym (add-one from))
+
+module _ (p : Problem) (g : Ground) (is : IsGroundOf p g) (groups : List Group) (size : ℕ) (v : Values) where
+  abbrev each_table : ℕ → Table
+  each_table = table_at is.flats size g.names v g.names.signatures
+
+  -- the tables of groups stand in the order of turns
+  tables_turned : (tables : List Table) (order : List ℕ) → groups ≡ chain_of p is.flats is.base → order ≡ function_order p.decls
+      → tables ≡ flat_map (λ c. ghosts.tables_of c size g.names v) groups → tables ≡ map each_table order
+  tables_turned tables order same turn all =
+      let signatures = ground_signatures p g is in
+      let known = subst (λ (ks : List Signature). All (λ func. func < length ks) (function_order p.decls)) (sym signatures) (order_known p is.flats is.base is.able is.limits is.named) in
+      let declared = same ∙ ap (λ ks. groups_of is.flats ks (function_order p.decls)) (sym signatures) in
+      all ∙ ap (flat_map (λ (c : Group). ghosts.tables_of c size g.names v)) declared ∙ tables_in_turn is.flats size g.names v g.names.signatures (function_order p.decls) known
+      ∙ ap (map each_table) (sym turn)
+
+  -- one for each turn
+  pub tables_many : (tables : List Table) (order : List ℕ) → groups ≡ chain_of p is.flats is.base → order ≡ function_order p.decls
+      → tables ≡ flat_map (λ c. ghosts.tables_of c size g.names v) groups → length tables ≡ length order
+  tables_many tables order same turn all = ap length (tables_turned tables order same turn all) ∙ length-map order each_table
+
+  -- and put into the order of declarations they are those of the structure
+  tables_ordered : {E : Type 0} (n : ℕ) (tables : List Table) (order : List ℕ) (r : Result (List Table) E) → groups ≡ chain_of p is.flats is.base → n ≡ length (levels_of p.decls)
+      → order ≡ function_order p.decls → tables ≡ flat_map (λ c. ghosts.tables_of c size g.names v) groups
+      → IfOk r (λ made. (f : ℕ → Table) → tables ≡ map f order → made ≡ map f (range_with_len 0 n))
+      → IfOk r (λ made. made ≡ tables_from is.flats size 0 g.names.signatures g.names v)
+  tables_ordered n tables order (Err e) same many turn all out = out
+  tables_ordered n tables order (Ok made) same many turn all out =
+      let ss = g.names.signatures in
+      let count = many ∙ functions_many p is.flats is.base is.able is.limits is.named ∙ ap length (sym (ground_signatures p g is)) in
+      out each_table (tables_turned tables order same turn all) ∙ ap (λ k. map each_table (range_with_len 0 k)) count
+      ∙ sym (tables_declared is.flats size g.names v ss ss 0 (λ k s e. (let at : 0 + k ≡ k = omega arith in ap (λ j. slice_get ss j) at ∙ e)))
+
+-- ---- however a ground set is known
+first_same : {A B E : Type 0} (r : Result (A × B) E) (x y : A × B) → r ≡ Ok x → r ≡ Ok y → x.0 ≡ y.0
+first_same r x y e f = let same : x ≡ y = cc in ap (λ z. z.0) same
+
+pub same_flats : (p : Problem) (g : Ground) (one other : IsGroundOf p g) → one.flats ≡ other.flats
+same_flats p g one other = first_same (flat_of p) (one.flats, one.base) (other.flats, other.base) one.named other.named
+
+pub tables_said : {E : Type 0} (p : Problem) (g : Ground) (is : IsGroundOf p g) (groups : List Group) (size : ℕ) (v : Values) (n : ℕ) (tables : List Table) (order : List ℕ) (r : Result (List Table) E)
+    → groups ≡ chain_of p is.flats is.base → n ≡ length (levels_of p.decls) → order ≡ function_order p.decls → tables ≡ flat_map (λ c. ghosts.tables_of c size g.names v) groups
+    → IfOk r (λ made. (f : ℕ → Table) → tables ≡ map f order → made ≡ map f (range_with_len 0 n))
+    → IfOk r (λ made. (other : IsGroundOf p g) → made ≡ tables_from other.flats size 0 g.names.signatures g.names v)
+tables_said p g is groups size v n tables order (Err e) same many turn all out = out
+tables_said {E} p g is groups size v n tables order (Ok made) same many turn all out = λ other.
+    tables_ordered p g is groups size v {E = E} n tables order (Ok made) same many turn all out
+    ∙ ap (λ flats. tables_from flats size 0 g.names.signatures g.names v) (same_flats p g is other)
+
+pub all_ready : (names : NameList) (v : Values) (groups : List Group) → All (λ c. ghosts.Ready c names v) groups
+all_ready names v groups = λ k d within. is_ready (slice_index_or groups k d) names v

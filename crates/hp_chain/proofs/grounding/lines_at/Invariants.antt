@@ -1,5 +1,0 @@
-use Rattle.hp_chain.proofs.Pairing.{IsPaired}
-use Rattle.hp_chain.proofs.grounding.lines_at.Given as goal
-
-abbrev pub invariant-loop-at : goal.invariant-loop-at
-invariant-loop-at l = IsPaired l.func l.places l.at l.initial.g l.g

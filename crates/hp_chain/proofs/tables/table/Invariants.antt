@@ -1,8 +1,0 @@
-use Rattle.std.proofs.Common.{map, take}
-use Rattle.hp_chain.specs.Kept.{AreKept}
-use Rattle.hp_chain.specs.Places.{points_at}
-use Rattle.hp_chain.specs.Structures.{fact_of}
-use Rattle.hp_chain.proofs.tables.table.Given as goal
-
-abbrev pub invariant-loop-place : goal.invariant-loop-place
-invariant-loop-place l = AreKept (map (fact_of l.func l.values) (points_at l.definitions (take l.place-index l.places))) l.index l.rows
