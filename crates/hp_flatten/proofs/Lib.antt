@@ -1,0 +1,10 @@
+pub mod Adding
+pub mod Holds
+pub mod HoldsReads
+pub mod HoldsSeeing
+pub mod HoldsTerms
+pub mod HoldsWords
+pub mod IsFlat
+pub mod IsFlatTerms
+pub mod IsFlatWords
+pub mod One

@@ -1,0 +1,3 @@
+pub mod Applications
+pub mod Flattening
+pub mod Laws
