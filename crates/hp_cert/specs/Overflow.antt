@@ -10,6 +10,7 @@ use Rattle.hp_descent.specs.declared.answer.At.{At}
 use Rattle.hp_descent.specs.declared.answer.At.TheVariants.{Row, Point, Literal}
 use Rattle.hp_descent.specs.declared.answer.Form.{Form}
 use Rattle.hp_descent.specs.declared.answer.Form.TheVariants.{Elimination, Coordinate, Sum, Value}
+use Rattle.hp_descent.specs.declared.answer.RowStrain.{RowStrain}
 use Rattle.hp_descent.specs.declared.answer.Place.{Place}
 use Rattle.hp_descent.specs.declared.answer.Place.TheVariants.{Path}
 use Rattle.hp_descent.specs.declared.answer.Strain.{Strain}
@@ -47,8 +48,20 @@ operation_text Minus = codes " - "
 abbrev pub wide_text : Wide → List ℕ
 wide_text wide = signed_decimal wide.left ++ operation_text wide.op ++ signed_decimal wide.right
 
--- the place, the chain, where on the way and in which form the number is too wide, and the operation
+-- the chain, where on the way and in which form the number is too wide, the operation, and a line feed
+abbrev pub row_strain_text : RowStrain → List ℕ
+row_strain_text row =
+    codes "; chain" ++ flat_map row_text row.chain ++ codes "; at " ++ at_text row.at ++ codes "; form " ++ form_text row.form ++ codes "; "
+    ++ wide_text row.wide ++ codes "\n"
+
+-- the place, and the strain there
 abbrev pub overflow_text : Strain → List ℕ
-overflow_text strain =
-    codes "overflow " ++ place_text strain.place ++ codes "; chain" ++ flat_map row_text strain.row.chain ++ codes "; at " ++ at_text strain.row.at
-    ++ codes "; form " ++ form_text strain.row.form ++ codes "; " ++ wide_text strain.row.wide ++ codes "\n"
+overflow_text strain = codes "overflow " ++ place_text strain.place ++ row_strain_text strain.row
+
+-- two clauses of a rule
+abbrev pub pair_text : ℕ → ℕ → ℕ → List ℕ
+pair_text rule clause other = codes "rule " ++ decimal rule ++ codes " clause " ++ decimal clause ++ codes " with " ++ decimal other
+
+-- the rule with its two clauses, and the strain there
+abbrev pub pair_overflow_text : ℕ → ℕ → ℕ → RowStrain → List ℕ
+pair_overflow_text rule clause other row = codes "overflow " ++ pair_text rule clause other ++ row_strain_text row

@@ -11,5 +11,5 @@ mod refutation;
 
 pub use ground::{def_text, line_text};
 pub use listing::entries;
-pub use overflow::overflow_text;
+pub use overflow::{overflow_text, pair_overflow_text};
 pub use refutation::{Entry, Refutation, body, write};

@@ -1,11 +1,11 @@
-//! The text of a strain.
+//! The text of a strain, at a place of a search tree or over the rows of two clauses.
 //! What the text is, is said on the data alone, in `specs/Overflow.antt`.
 
 ghost use Rattle.std.specs.Prelude.{◌≡◌, ◌++◌, IfOk, OnOk};
 ghost use Rattle.std.specs.List.{flat_map};
-ghost use Rattle.hp_cert.specs.Overflow.{at_text, choice_text, form_text, operation_text, overflow_text, place_text, row_text, wide_text};
+ghost use Rattle.hp_cert.specs.Overflow.{at_text, choice_text, form_text, operation_text, overflow_text, pair_overflow_text, pair_text, place_text, row_strain_text, row_text, wide_text};
 
-use hp_descent::{At, Form, Place, Strain};
+use hp_descent::{At, Form, Place, RowStrain, Strain};
 use hp_lit::Choice;
 use hp_num::{Op, Text, Wide};
 use hp_text::{put_text, put_whole};
@@ -25,19 +25,59 @@ pub fn overflow_text(alloc: Global, strain: &Strain) -> Result<Text, AllocError>
     let mut out = Text::new(alloc);
     put_text(&mut out, b"overflow ")?;
     put_place(&mut out, &strain.place)?;
-    put_text(&mut out, b"; chain")?;
-    put_rows(&mut out, strain.row.chain.as_slice())?;
-    put_text(&mut out, b"; at ")?;
-    put_at(&mut out, strain.row.at)?;
-    put_text(&mut out, b"; form ")?;
-    put_text(&mut out, form(strain.row.form))?;
-    put_text(&mut out, b"; ")?;
-    put_wide(&mut out, strain.row.wide)?;
-    put_text(&mut out, b"\n")?;
+    put_row_strain(&mut out, &strain.row)?;
     Ok(out)
 }
 
-/// Puts a place. Here as in the calls below, a part may be in `out` where memory is short.
+/// The line that shows a strain over the rows of two clauses of a rule, with a line feed behind it, as in
+/// `overflow rule 8 clause 4 with 2; chain 5 3; at 2; form 1; 170141183460469231731687303715884105727 * 2`.
+///
+/// Behind `rule` stands the number of the rule, and behind `clause` and `with` those of the clauses. What follows is as in
+/// `overflow_text`. An `Err` comes where memory is short.
+pub fn pair_overflow_text(
+    alloc: Global,
+    rule: u8,
+    clause: u32,
+    other: u32,
+    row: &RowStrain,
+) -> Result<Text, AllocError>
+    ensures { IfOk result (λ text. text ≡ pair_overflow_text rule clause other row.now) }
+{
+    let mut out = Text::new(alloc);
+    put_text(&mut out, b"overflow ")?;
+    put_pair(&mut out, rule, clause, other)?;
+    put_row_strain(&mut out, row)?;
+    Ok(out)
+}
+
+/// Puts a rule and two clauses. Here as in the calls below, a part may be in `out` where memory is short.
+fn put_pair(out: &mut Text, rule: u8, clause: u32, other: u32) -> Result<(), AllocError>
+    ensures { OnOk result (out.new ≡ out.old ++ pair_text rule clause other) }
+{
+    put_text(out, b"rule ")?;
+    put_whole(out, i128::from(rule))?;
+    put_text(out, b" clause ")?;
+    put_whole(out, i128::from(clause))?;
+    put_text(out, b" with ")?;
+    put_whole(out, i128::from(other))
+}
+
+/// Puts what a strain says of its rows: the chain, where on the way, the form and the operation.
+fn put_row_strain(out: &mut Text, row: &RowStrain) -> Result<(), AllocError>
+    ensures { OnOk result (out.new ≡ out.old ++ row_strain_text row.now) }
+{
+    put_text(out, b"; chain")?;
+    put_rows(out, row.chain.as_slice())?;
+    put_text(out, b"; at ")?;
+    put_at(out, row.at)?;
+    put_text(out, b"; form ")?;
+    put_text(out, form(row.form))?;
+    put_text(out, b"; ")?;
+    put_wide(out, row.wide)?;
+    put_text(out, b"\n")
+}
+
+/// Puts a place.
 fn put_place(out: &mut Text, place: &Place) -> Result<(), AllocError>
     ensures { OnOk result (out.new ≡ out.old ++ place_text place.now) }
 {

@@ -1,0 +1,3 @@
+pub mod Words
+pub mod Solutions
+pub mod First

@@ -1,0 +1,4 @@
+pub mod Branches
+pub mod Answers
+pub mod Shown
+pub mod Text
