@@ -1,0 +1,13 @@
+pub mod Adding
+pub mod Seeing
+pub mod Bare
+pub mod Heads
+pub mod Fitting
+pub mod Words
+pub mod Sorted
+pub mod CaseRows
+pub mod Still
+pub mod Kept
+pub mod Laws
+pub mod Says
+pub mod Complete
