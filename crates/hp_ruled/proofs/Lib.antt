@@ -1,0 +1,13 @@
+pub mod Seeing
+pub mod Reading
+pub mod Placing
+pub mod Applications
+pub mod Owning
+pub mod Sources
+pub mod Truth
+pub mod Numbers
+pub mod Guards
+pub mod Sorts
+pub mod Branches
+pub mod ByCases
+pub mod Shapes

@@ -1,0 +1,7 @@
+pub mod GuardRows
+pub mod Gaps
+pub mod WordsAdded
+pub mod SameLengths
+pub mod Words
+pub mod WithCase
+pub mod ClausesRead
