@@ -34,6 +34,7 @@ use Rattle.hp_index.specs.Fit.{IsFormOver}
 use Rattle.hp_index.specs.Literals.{form_literals}
 use Rattle.hp_index.specs.Pointers.{asks_same}
 use Rattle.hp_index.specs.Values.{form_value}
+use Rattle.hp_index.proofs.Bounds.{offset_is_side}
 use Rattle.hp_index.proofs.Fits.{form_literals_are_fit}
 use Rattle.hp_index.proofs.Truth.{form_literals_compare}
 use Rattle.hp_defs.specs.Fit.{ArgFits}
@@ -217,7 +218,7 @@ module _ (sorts : List Sort) where
   form_over : (x : Arg) → ArgFits sorts Idx x → IsSmallArg x → IsFormOver sorts (arg_form x)
   form_over (Number q) h s = absurd h
   form_over (Named name) h s = absurd h
-  form_over (Index base offset) h s = record { base = h; offset = s }
+  form_over (Index base offset) h s = record { base = h; offset = offset_is_side offset s }
   form_over Null h s = absurd h
 
   pointer_over : (x : Arg) → ArgFits sorts Ptr x → IsSide Ptr sorts (arg_pointer x)

@@ -2,7 +2,7 @@
 
 ghost use Rattle.std.specs.Prelude.{◌≡◌, ◌<◌, Ok, length};
 ghost use Rattle.std.specs.List.{All};
-ghost use Rattle.hp_terms.specs.Weight.{IsSmallOffset};
+ghost use Rattle.hp_index.specs.Fit.{IsSmallSide};
 ghost use Rattle.hp_linear.specs.Answers.{Answers, Pushed};
 ghost use Rattle.hp_defs.specs.Made.{IsSmallArg, IsSmallBody};
 ghost use Rattle.hp_base.specs.Making.{Begins, Makes};
@@ -30,10 +30,11 @@ fn arg_lin(alloc: Global, arg: Arg) -> Result<Lin, Refusal>
 }
 
 /// An argument as a name plus a whole number.
+#[tactic(auto, using(hp_index::proofs::Bounds::offset_is_side))]
 fn arg_form(arg: Arg) -> IndexForm
     requires { IsSmallArg arg }
     ensures form { result ≡ arg_form arg }
-    ensures small { IsSmallOffset result.offset }
+    ensures small { IsSmallSide result.offset }
 {
     match arg {
         Arg::Number(_) | Arg::Null => IndexForm {

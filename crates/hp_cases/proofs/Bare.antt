@@ -9,7 +9,7 @@ use Rattle.hp_tree.specs.declared.problem.Atom.{Atom}
 use Rattle.hp_tree.specs.Value.{Word}
 use Rattle.hp_terms.specs.Occurring.{joined}
 use Rattle.hp_local.specs.Applied.{applies_only, applies_step, atom_applies}
-use Rattle.hp_cases.proofs.Seeing.{by_term_roll}
+use Rattle.hp_norm.proofs.Seeing.{by_term_roll}
 use Rattle.hp_flatten.specs.declared.application.Application.{Application}
 use Rattle.hp_flatten.specs.Applications.{application_of, applications, applications_step, atoms_applications}
 

@@ -1,5 +1,4 @@
 pub mod Adding
-pub mod Seeing
 pub mod Bare
 pub mod Heads
 pub mod Fitting

@@ -17,7 +17,7 @@ use Rattle.hp_tree.specs.declared.problem.Var.{Var}
 use Rattle.hp_tree.specs.Value.{Word}
 use Rattle.hp_terms.specs.Scope.{Profile, Widens}
 use Rattle.hp_terms.specs.Sorting.{atom_is_sorted}
-use Rattle.hp_terms.specs.Weight.{largest_offset}
+use Rattle.hp_index.specs.Fit.{largest_side}
 use Rattle.hp_terms.proofs.Wider.{wider_scopes_keep_sorts}
 use Rattle.hp_lit.specs.declared.literal.Name.{Name}
 use Rattle.hp_lit.specs.declared.line.Arg.{Arg}
@@ -146,8 +146,8 @@ module _ (old new : NameList) (b : BeginsNames old new) (made : IsMade new) (c :
   sides_stay a h =
       let same = loads_same old new b.signatures in
       record {
-        left = subst (λ (l : Term → Load). (l a.left).own ≤ largest_offset) same h.left;
-        right = subst (λ (l : Term → Load). (l a.right).own ≤ largest_offset) same h.right;
+        left = subst (λ (l : Term → Load). (l a.left).own ≤ largest_side) same h.left;
+        right = subst (λ (l : Term → Load). (l a.right).own ≤ largest_side) same h.right;
       }
 
   atom_stays : (a : Atom) → atom_is_sorted (clause_scope old c.vars) a ≡ true → IsLightAt old c args a → IsLightAt new c args a

@@ -18,7 +18,7 @@ use Rattle.hp_terms.specs.Laws.{HasSort, parts_of}
 use Rattle.hp_terms.proofs.Parts.{parts_of_sorted_terms_are_sorted}
 use Rattle.hp_index.proofs.Layers.{Parts, bare, by_layers}
 use Rattle.hp_local.proofs.Terms.{name_value, number_value}
-use Rattle.hp_flatten.proofs.HoldsSeeing.{by_term_roll}
+use Rattle.hp_norm.proofs.Seeing.{by_term_roll}
 use Rattle.hp_norm.proofs.TermsNamed.{word_has_sort}
 use Rattle.hp_flatten.specs.declared.application.Application.{Application}
 use Rattle.hp_flatten.specs.Applications.{application_of, applications, applications_step}

@@ -1,7 +1,6 @@
 pub mod Adding
 pub mod Holds
 pub mod HoldsReads
-pub mod HoldsSeeing
 pub mod HoldsTerms
 pub mod HoldsWords
 pub mod IsFlat

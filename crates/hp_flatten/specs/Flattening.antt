@@ -1,6 +1,6 @@
 -- Flattening: a clause with one application is said of the words of its arguments, `$1`, `$2` and so on. An argument without
 -- variables, and a variable that is an earlier argument, becomes an equality of the guard.
-use Rattle.std.specs.Prelude.{ℕ, suc, List, [], ◌∷◌, ◌++◌, map, take, length, position, Bool, true, false, ◌&&◌, ◌||◌, not, nat_eq, if◌then◌else◌, Option, Some, None, is_some, slice_index_or}
+use Rattle.std.specs.Prelude.{ℕ, suc, List, [], ◌∷◌, ◌++◌, map, take, length, position, Bool, true, false, ◌&&◌, nat_eq, if◌then◌else◌, Option, Some, None, is_some, slice_index_or}
 use Rattle.std.specs.List.{list_all}
 use Rattle.std.specs.Str.{bytes_eq}
 use Rattle.hp_tree.specs.declared.term.Term.{Term, fold-Term, out-Term, Number, Null, Name, Apply, Add, Sub, Neg, Scale}
@@ -13,7 +13,8 @@ use Rattle.hp_tree.specs.declared.problem.Var.{Var}
 use Rattle.hp_tree.specs.Value.{Word}
 use Rattle.hp_local.specs.Rows.{argument_words}
 use Rattle.hp_norm.specs.declared.flat.FlatClause.{FlatClause}
-use Rattle.hp_norm.specs.Opening.{is_variable, mentions}
+use Rattle.hp_norm.specs.Opening.{is_variable}
+pub use Rattle.hp_norm.specs.Plain.{is_lone_variable, is_plain_argument, is_variable_in, name_in}
 use Rattle.hp_flatten.specs.declared.application.Application.{Application}
 
 -- ---- the words of arguments
@@ -36,10 +37,6 @@ abbrev pub at_words : Word → ℕ → Application
 at_words func count = record { func = func; args = argument_names count }
 
 -- ---- arguments
-abbrev pub name_in : Term-F Term → Option Word
-name_in (Term-F.Name word) = Some word
-name_in _ = None
-
 -- the term is this name alone
 abbrev pub is_word : Word → Option Word → Bool
 is_word word None = false
@@ -51,18 +48,6 @@ is_named word term = is_word word (name_in (out-Term term))
 -- the place of the first argument that is this name alone, counted from 0
 abbrev pub place_of : List Term → Word → Option ℕ
 place_of args word = position (is_named word) args
-
--- a variable alone
-abbrev pub is_variable_in : List Var → Option Word → Bool
-is_variable_in vars None = false
-is_variable_in vars (Some word) = is_variable vars word
-
-abbrev pub is_lone_variable : List Var → Term → Bool
-is_lone_variable vars term = is_variable_in vars (name_in (out-Term term))
-
--- a variable, or a term without variables
-abbrev pub is_plain_argument : List Var → Term → Bool
-is_plain_argument vars term = is_lone_variable vars term || not (mentions vars term)
 
 abbrev pub is_num : Sort → Bool
 is_num sort.Num = true

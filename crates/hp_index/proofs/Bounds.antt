@@ -15,7 +15,7 @@ use Rattle.hp_lit.specs.declared.literal.Lit.TheVariants.{Idx}
 use Rattle.hp_lit.specs.Fit.{IsSmallBound}
 use Rattle.hp_index.specs.declared.form.IndexForm.{IndexForm}
 use Rattle.hp_index.specs.Forms.{index_of, index_step}
-use Rattle.hp_index.specs.Fit.{HasSmallBound}
+use Rattle.hp_index.specs.Fit.{HasSmallBound, IsSmallSide, largest_side}
 use Rattle.hp_index.specs.Laws.{OffsetsAreWithinWeights}
 use Rattle.hp_index.specs.Literals.{compared, form_literals}
 use Rattle.hp_index.proofs.Layers.{Parts, bare, by_layers}
@@ -71,22 +71,29 @@ offsets_are_within_weights words t = offset_within words t
 pub small_offset : (words : List Word) (t : Term) → weight t ≤ largest_offset → IsSmallOffset (index_of words t).offset
 small_offset words t m = within-more (weight t) largest_offset (index_of words t).offset m (offset_within words t)
 
+pub small_side : (words : List Word) (t : Term) → weight t ≤ largest_side → IsSmallSide (index_of words t).offset
+small_side words t m = within-more (weight t) largest_side (index_of words t).offset m (offset_within words t)
+
+-- what may stand beside an index that is an argument may stand on a side of an atom
+pub offset_is_side : (x : ℤ) → IsSmallOffset x → IsSmallSide x
+offset_is_side x p = let g = p.low in let h = p.high in record { low = omega (arith, ints); high = omega (arith, ints) }
+
 -- ---- the bounds of literals
-difference_small : (x y : ℤ) → IsSmallOffset x → IsSmallOffset y → IsSmallBound (y -ℤ x)
+difference_small : (x y : ℤ) → IsSmallSide x → IsSmallSide y → IsSmallBound (y -ℤ x)
 difference_small x y p q = let g = p.low in let h = p.high in let i = q.low in let j = q.high in record { low = omega (arith, ints); high = omega (arith, ints) }
 
-strict_small : (x y : ℤ) → IsSmallOffset x → IsSmallOffset y → IsSmallBound ((y -ℤ x) -ℤ pos 1)
+strict_small : (x y : ℤ) → IsSmallSide x → IsSmallSide y → IsSmallBound ((y -ℤ x) -ℤ pos 1)
 strict_small x y p q = let g = p.low in let h = p.high in let i = q.low in let j = q.high in record { low = omega (arith, ints); high = omega (arith, ints) }
 
-pub compared_small : (r : Rel) (l m : IndexForm) → IsSmallOffset l.offset → IsSmallOffset m.offset → IsSmallBound (compared r l m).bound
+pub compared_small : (r : Rel) (l m : IndexForm) → IsSmallSide l.offset → IsSmallSide m.offset → IsSmallBound (compared r l m).bound
 compared_small rel.Le l m p q = difference_small l.offset m.offset p q
 compared_small rel.Lt l m p q = strict_small l.offset m.offset p q
 compared_small rel.Eq l m p q = difference_small l.offset m.offset p q
 
-one_small : (r : Rel) (l m : IndexForm) → IsSmallOffset l.offset → IsSmallOffset m.offset → All HasSmallBound (Idx (compared r l m) ∷ [])
+one_small : (r : Rel) (l m : IndexForm) → IsSmallSide l.offset → IsSmallSide m.offset → All HasSmallBound (Idx (compared r l m) ∷ [])
 one_small r l m p q = All-cons HasSmallBound (Idx (compared r l m)) [] (compared_small r l m p q) (All-nil HasSmallBound)
 
-pub literals_small : (cmp : Cmp) (l m : IndexForm) → IsSmallOffset l.offset → IsSmallOffset m.offset → All HasSmallBound (form_literals cmp l m)
+pub literals_small : (cmp : Cmp) (l m : IndexForm) → IsSmallSide l.offset → IsSmallSide m.offset → All HasSmallBound (form_literals cmp l m)
 literals_small Le l m p q = one_small rel.Le l m p q
 literals_small Lt l m p q = one_small rel.Lt l m p q
 literals_small Eq l m p q = one_small rel.Eq l m p q

@@ -17,7 +17,7 @@ use Rattle.hp_index.specs.Laws.{FormLiteralsAreFit, LiteralsAreFit, PtrLiteralsA
 use Rattle.hp_tree.specs.Sides.{signed}
 use Rattle.hp_index.specs.Literals.{cancel, compared}
 use Rattle.hp_index.specs.Pointers.{asks_same, pointer_of}
-use Rattle.hp_index.proofs.Bounds.{compared_small, small_offset}
+use Rattle.hp_index.proofs.Bounds.{compared_small, small_side}
 use Rattle.hp_index.proofs.Named.{pointer_side, term_base}
 use Rattle.hp_index.proofs.Steps.{left_light, right_light}
 use Rattle.hp_index.proofs.Truth.{sorted_parts}
@@ -49,7 +49,7 @@ form_literals_are_fit sorts Gt l m p q = one_fit sorts rel.Lt m l q p
 
 -- ---- atoms
 pub terms_have_fit_forms : TermsHaveFitForms
-terms_have_fit_forms words sorts t e light = record { base = (term_base words sorts t).index e; offset = small_offset words t light }
+terms_have_fit_forms words sorts t e light = record { base = (term_base words sorts t).index e; offset = small_side words t light }
 
 pub literals_are_fit : LiteralsAreFit
 literals_are_fit words sorts positive atom sorted light =

@@ -8,7 +8,7 @@ use Rattle.hp_tree.specs.declared.problem.Sort.{Sort}
 use Rattle.hp_tree.specs.declared.problem.Sort.TheVariants.{Idx, Ptr}
 use Rattle.hp_tree.specs.Value.{Word, Environment, Functions, atom_is_true, compares, value}
 use Rattle.hp_terms.specs.Sorting.{forms_of, has_form, is_sorted}
-use Rattle.hp_terms.specs.Weight.{IsLightAtom, IsWithin, largest_offset, weight}
+use Rattle.hp_terms.specs.Weight.{IsLightAtom, IsWithin, weight}
 use Rattle.hp_lit.specs.Truth.{Values, LineIsTrue, optional_value}
 use Rattle.hp_lit.specs.Sorts.{HaveSorts}
 use Rattle.hp_lit.specs.Words.{Agrees, scope_over}
@@ -18,7 +18,7 @@ use Rattle.hp_index.specs.Forms.{index_of}
 use Rattle.hp_index.specs.Literals.{form_literals, literals}
 use Rattle.hp_index.specs.Pointers.{pointer_of, ptr_literals}
 use Rattle.hp_index.specs.Values.{form_value}
-use Rattle.hp_index.specs.Fit.{IsFormOver}
+use Rattle.hp_index.specs.Fit.{IsFormOver, largest_side}
 
 -- ---- values and truth
 -- an idx term has the value of its form, where the words have the values of their names
@@ -59,7 +59,7 @@ OffsetsAreWithinWeights = (words : List Word) (term : Term) → IsWithin (weight
 -- the form of an idx term whose numbers are not too large is over names of sort idx
 abbrev pub TermsHaveFitForms : Type 0
 TermsHaveFitForms = (words : List Word) (sorts : List Sort) (term : Term)
-    → has_form (forms_of (scope_over words sorts) term) Idx ≡ true → weight term ≤ largest_offset → IsFormOver sorts (index_of words term)
+    → has_form (forms_of (scope_over words sorts) term) Idx ≡ true → weight term ≤ largest_side → IsFormOver sorts (index_of words term)
 
 -- the literals that compare two forms over names of sort idx can be decided
 abbrev pub FormLiteralsAreFit : Type 0

@@ -3,8 +3,8 @@
 ghost use Rattle.std.specs.Prelude.{◌≡◌, ◌-ℤ◌, ◌∷◌, []};
 ghost use Rattle.hp_tree.specs.declared.problem.Cmp.TheVariants.{Ne};
 ghost use Rattle.hp_lit.specs.declared.literal.Lit.TheVariants.{Idx};
-ghost use Rattle.hp_terms.specs.Weight.{IsSmallOffset};
 ghost use Rattle.hp_index.specs.Literals.{bound_of, cancel, compared, form_literals};
+ghost use Rattle.hp_index.specs.Fit.{IsSmallSide};
 ghost use Rattle.hp_index.specs.Answers.{Pushed};
 
 use crate::form::IndexForm;
@@ -18,7 +18,7 @@ use std::alloc::AllocError;
 /// exchange the sides; for `l = r` it is an exact bound, for `l != r` the two literals of `l < r` and then of `r < l`. A
 /// name on both sides cancels, and there may be none.
 ///
-/// It asks for numbers beside the names of a magnitude of at most 2 * 10^24. An `Err` comes where memory is short; then
+/// It asks for numbers beside the names of a magnitude of at most 4 * 10^24. An `Err` comes where memory is short; then
 /// the first of two literals may be there, and what was there before still is.
 pub fn form_literals(
     cmp: Cmp,
@@ -26,8 +26,8 @@ pub fn form_literals(
     right: IndexForm,
     lits: &mut List<Lit>,
 ) -> Result<(), AllocError>
-    requires left { IsSmallOffset left.offset }
-    requires right { IsSmallOffset right.offset }
+    requires left { IsSmallSide left.offset }
+    requires right { IsSmallSide right.offset }
     ensures { Pushed (form_literals cmp left right) lits.old lits.new result }
 {
     match cmp {
@@ -42,8 +42,8 @@ pub fn form_literals(
 
 /// Adds the two literals that say that two forms differ.
 fn push_apart(lits: &mut List<Lit>, left: IndexForm, right: IndexForm) -> Result<(), AllocError>
-    requires left { IsSmallOffset left.offset }
-    requires right { IsSmallOffset right.offset }
+    requires left { IsSmallSide left.offset }
+    requires right { IsSmallSide right.offset }
     ensures { Pushed (form_literals Ne left right) lits.old lits.new result }
 {
     push_compared(lits, Rel::Lt, left, right)?;
@@ -57,8 +57,8 @@ fn push_compared(
     left: IndexForm,
     right: IndexForm,
 ) -> Result<(), AllocError>
-    requires left { IsSmallOffset left.offset }
-    requires right { IsSmallOffset right.offset }
+    requires left { IsSmallSide left.offset }
+    requires right { IsSmallSide right.offset }
     ensures { Pushed (Idx (compared rel left right) ∷ []) lits.old lits.new result }
 {
     lits.push(Lit::Idx(compared(rel, left, right)))
@@ -66,8 +66,8 @@ fn push_compared(
 
 /// The literal that compares two forms.
 fn compared(rel: Rel, left: IndexForm, right: IndexForm) -> IdxLit
-    requires left { IsSmallOffset left.offset }
-    requires right { IsSmallOffset right.offset }
+    requires left { IsSmallSide left.offset }
+    requires right { IsSmallSide right.offset }
     ensures { result ≡ compared rel left right }
 {
     let cancels = cancel(left.base, right.base);
@@ -97,8 +97,8 @@ fn cancel(left: Option<Name>, right: Option<Name>) -> bool
 
 /// The bound on the difference of two names with these numbers beside them.
 fn bound(rel: Rel, left: i128, right: i128) -> i128
-    requires left { IsSmallOffset left }
-    requires right { IsSmallOffset right }
+    requires left { IsSmallSide left }
+    requires right { IsSmallSide right }
     ensures { result ≡ bound_of rel (right -ℤ left) }
 {
     match rel {

@@ -1,10 +1,11 @@
 //! Index terms, collected from inside out to a name plus a whole number.
 //!
-//! No number that is collected passes 2 * 10^24 in magnitude, so that no sum of two of them wraps.
+//! No number that is collected passes 4 * 10^24 in magnitude, so that no sum of two of them wraps.
 
 ghost use Rattle.std.specs.Prelude.{◌≡◌, ◌<◌, ◌≤◌, ◌^◌, MatchOption, length};
-ghost use Rattle.hp_terms.specs.Weight.{IsSmallOffset, largest_offset, weight};
+ghost use Rattle.hp_terms.specs.Weight.{weight};
 ghost use Rattle.hp_index.specs.Forms.{above, index_of, minus_form, plus_form};
+ghost use Rattle.hp_index.specs.Fit.{IsSmallSide, largest_side};
 
 use crate::words::name_of;
 use hp_lit::Name;
@@ -12,7 +13,7 @@ use hp_names::NameIndex;
 use hp_tree::Term;
 
 /// The largest magnitude of a whole number beside a name.
-const LARGEST_OFFSET: i128 = 2_000_000_000_000_000_000_000_000;
+const LARGEST_SIDE: i128 = 4_000_000_000_000_000_000_000_000;
 
 /// A name plus a whole number; without a name, the number alone.
 #[derive(Clone, Copy, Debug, PartialEq, Eq)]
@@ -21,11 +22,11 @@ pub struct IndexForm {
     pub offset: i128,
 }
 
-/// The form, where the magnitude of its number is at most 2 * 10^24.
+/// The form, where the magnitude of its number is at most 4 * 10^24.
 fn small(base: Option<Name>, offset: i128) -> Option<IndexForm>
-    ensures { MatchOption result (IsSmallOffset offset → ⊥) (λ form. (form ≡ above base offset) × IsSmallOffset offset) }
+    ensures { MatchOption result (IsSmallSide offset → ⊥) (λ form. (form ≡ above base offset) × IsSmallSide offset) }
 {
-    if -LARGEST_OFFSET <= offset && offset <= LARGEST_OFFSET {
+    if -LARGEST_SIDE <= offset && offset <= LARGEST_SIDE {
         Some(IndexForm { base, offset })
     } else {
         None
@@ -34,18 +35,18 @@ fn small(base: Option<Name>, offset: i128) -> Option<IndexForm>
 
 /// The sum of two forms of which one is a number alone.
 fn sum(left: IndexForm, right: IndexForm) -> Option<IndexForm>
-    requires left { IsSmallOffset left.offset }
-    requires right { IsSmallOffset right.offset }
-    ensures { MatchOption result (IsSmallOffset (plus_form left right).offset → ⊥) (λ form. (form ≡ plus_form left right) × IsSmallOffset (plus_form left right).offset) }
+    requires left { IsSmallSide left.offset }
+    requires right { IsSmallSide right.offset }
+    ensures { MatchOption result (IsSmallSide (plus_form left right).offset → ⊥) (λ form. (form ≡ plus_form left right) × IsSmallSide (plus_form left right).offset) }
 {
     small(left.base.or(right.base), left.offset + right.offset)
 }
 
 /// The first form without the second, a number alone.
 fn difference(left: IndexForm, right: IndexForm) -> Option<IndexForm>
-    requires left { IsSmallOffset left.offset }
-    requires right { IsSmallOffset right.offset }
-    ensures { MatchOption result (IsSmallOffset (minus_form left right).offset → ⊥) (λ form. (form ≡ minus_form left right) × IsSmallOffset (minus_form left right).offset) }
+    requires left { IsSmallSide left.offset }
+    requires right { IsSmallSide right.offset }
+    ensures { MatchOption result (IsSmallSide (minus_form left right).offset → ⊥) (λ form. (form ≡ minus_form left right) × IsSmallSide (minus_form left right).offset) }
 {
     small(left.base, left.offset - right.offset)
 }
@@ -56,11 +57,11 @@ fn difference(left: IndexForm, right: IndexForm) -> Option<IndexForm>
 /// order, or an index term without a whole number. The caller knows the sort: a word that is none of these is nothing, and
 /// so are null, applications and multiples.
 ///
-/// The number has a magnitude of at most 2 * 10^24. `None` comes only where the magnitudes of the numerators of the
+/// The number has a magnitude of at most 4 * 10^24. `None` comes only where the magnitudes of the numerators of the
 /// term's numbers add up to more. It asks for fewer than 2^28 words.
 pub fn index_form(index: &NameIndex, term: &Term) -> Option<IndexForm>
     requires { length index.now < 2 ^ 28 }
-    ensures { MatchOption result (weight term.now ≤ largest_offset → ⊥) (λ form. (form ≡ index_of index.now term.now) × IsSmallOffset form.offset) }
+    ensures { MatchOption result (weight term.now ≤ largest_side → ⊥) (λ form. (form ≡ index_of index.now term.now) × IsSmallSide form.offset) }
 {
     match term {
         Term::Number(n) => small(None, n.num()),

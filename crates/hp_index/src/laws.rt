@@ -37,7 +37,8 @@ pub fn offsets_are_within_weights()
     ensures { OffsetsAreWithinWeights }
 {}
 
-/// The form of an idx term is over names of sort idx, with a small number where those of the term are small together.
+/// The form of an idx term is over names of sort idx, with a small number where those of the term are small together: the
+/// magnitudes of its numerators add up to at most 4 * 10^24.
 pub fn terms_have_fit_forms()
     ensures { TermsHaveFitForms }
 {}

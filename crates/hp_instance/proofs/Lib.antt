@@ -8,4 +8,4 @@ mod InstanceSteps
 pub mod LiteralsSay
 pub mod InstancesSay
 pub mod ComingBack
-pub mod Room
+pub mod PlainTuples

@@ -7,11 +7,12 @@ use Rattle.hp_tree.specs.declared.problem.Sort.TheVariants.{Idx}
 use Rattle.hp_tree.specs.declared.problem.Atom.{Atom}
 use Rattle.hp_terms.specs.Scope.{Scope}
 use Rattle.hp_terms.specs.Sorting.{sort_of}
-use Rattle.hp_terms.specs.Weight.{largest_offset, weight}
+use Rattle.hp_terms.specs.Weight.{weight}
 use Rattle.hp_lit.specs.declared.literal.Lit.{Lit}
 use Rattle.hp_lit.specs.declared.line.Line.{Line}
 use Rattle.hp_lit.specs.declared.line.Arg.{Arg}
 use Rattle.hp_lit.specs.declared.line.Origin.TheVariants.{At}
+use Rattle.hp_index.specs.Fit.{largest_side}
 use Rattle.hp_linear.specs.Steps.{Refusable, behind}
 use Rattle.hp_defs.specs.Names.{NameList, words}
 use Rattle.hp_base.specs.Making.{Maker, ◌then◌, computed}
@@ -39,8 +40,8 @@ sorted_literals names guard_sorts guard head_sorts head =
 
 -- the numbers of an atom of sort idx are small on each side
 pub record HasSmallSides (atom : Atom) : Type 0 where
-  pub left : weight atom.left ≤ largest_offset
-  pub right : weight atom.right ≤ largest_offset
+  pub left : weight atom.left ≤ largest_side
+  pub right : weight atom.right ≤ largest_side
 
 abbrev pub IsLightFor : Sort → Atom → Type 0
 IsLightFor sort atom = sort ≡ Idx → HasSmallSides atom

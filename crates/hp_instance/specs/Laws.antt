@@ -1,8 +1,6 @@
 -- What the line of a clause at arguments says, and what its making adds.
-use Rattle.std.specs.Prelude.{◌≡◌, ◌↔◌, ℕ, ◌+◌, ◌≤◌, List, Ok, true, unsigned_abs}
+use Rattle.std.specs.Prelude.{◌≡◌, ◌↔◌, ℕ, ◌≤◌, List, Ok, true}
 use Rattle.std.specs.List.{All, AllZip}
-use Rattle.hp_tree.specs.declared.term.Term.{Term, fold-Term}
-use Rattle.hp_tree.specs.declared.term.Term.TheOpen.{Term-F}
 use Rattle.hp_tree.specs.declared.problem.Sort.{Sort}
 use Rattle.hp_tree.specs.declared.problem.Sort.TheVariants.{Idx}
 use Rattle.hp_tree.specs.declared.problem.Atom.{Atom}
@@ -11,9 +9,8 @@ use Rattle.hp_tree.specs.Value.{Environment, Functions}
 use Rattle.hp_tree.specs.Universal.{clause_at}
 use Rattle.hp_terms.specs.Scope.{Scope}
 use Rattle.hp_terms.specs.Sorting.{sort_of}
-use Rattle.hp_terms.specs.Weight.{largest_offset, weights}
 use Rattle.hp_lit.specs.declared.line.Arg.{Arg}
-use Rattle.hp_lit.specs.declared.line.Arg.TheVariants.{Number, Named, Index, Null}
+use Rattle.hp_index.specs.Fit.{largest_side}
 use Rattle.hp_lit.specs.Sorts.{HaveSorts}
 use Rattle.hp_lit.specs.Truth.{Values}
 use Rattle.hp_defs.specs.declared.names.Ground.{Ground}
@@ -31,13 +28,14 @@ use Rattle.hp_norm.specs.Sound.{AreTrue, AreValues, IsLater, IsSound}
 use Rattle.hp_local.specs.Substitution.{substitute_atom}
 use Rattle.hp_instance.specs.declared.tuple.Tuple.{Tuple}
 use Rattle.hp_instance.specs.Instances.{instance}
+use Rattle.hp_instance.specs.Plain.{HasPlainIndexes}
 use Rattle.hp_instance.specs.Replacing.{arg_term, replacement}
 
 -- ---- tuples
--- the numbers of each side outside of arguments are small together
+-- the numbers of each side outside of arguments are small enough together for one
 pub record HasLightSides (scope : Scope) (atom : Atom) : Type 0 where
-  pub left : (load scope atom.left).own ≤ largest_offset
-  pub right : (load scope atom.right).own ≤ largest_offset
+  pub left : (load scope atom.left).own ≤ largest_side
+  pub right : (load scope atom.right).own ≤ largest_side
 
 -- at arguments, an atom of sort idx has small numbers on each side, and so has each argument of an application in it that is
 -- an index; other numbers may be large
@@ -52,36 +50,10 @@ pub record TupleFits (names : NameList) (c : FlatClause) (args : List Arg) : Typ
   pub guard : All (IsLightAt names c args) c.guard
   pub head : All (IsLightAt names c args) c.head
 
--- the numbers of a term, where each name counts as so many
-abbrev pub room_step : ℕ → Term-F ℕ → ℕ
-room_step m (Term-F.Number q) = unsigned_abs q.num
-room_step m Term-F.Null = 0
-room_step m (Term-F.Name name) = m
-room_step m (Term-F.Apply func args) = weights args
-room_step m (Term-F.Add a b) = a + b
-room_step m (Term-F.Sub a b) = a + b
-room_step m (Term-F.Neg a) = a
-room_step m (Term-F.Scale q a) = unsigned_abs q.num + a
-
-abbrev pub room : ℕ → Term → ℕ
-room m = fold-Term ℕ (room_step m)
-
--- on each side of an atom there is room for so much in the place of each name
-pub record HasRoom (m : ℕ) (atom : Atom) : Type 0 where
-  pub left : room m atom.left ≤ largest_offset
-  pub right : room m atom.right ≤ largest_offset
-
--- what is added in an index is at most so much
-abbrev pub IsOffsetWithin : ℕ → Arg → Type 0
-IsOffsetWithin m (Number q) = Unit {0}
-IsOffsetWithin m (Named name) = Unit {0}
-IsOffsetWithin m (Index base offset) = unsigned_abs offset ≤ m
-IsOffsetWithin m Null = Unit {0}
-
--- arguments of the sorts of variables fit a clause whose atoms have room for their offsets
-abbrev pub TuplesFit : Type 0
-TuplesFit = (names : NameList) (c : FlatClause) (args : List Arg) (m : ℕ) → IsFlat names c → AllZip (λ (v : Var) x. ArgFits (sorts names) v.sort x) c.vars args → All IsSmallArg args
-    → All (IsOffsetWithin m) args → All (HasRoom m) c.guard → All (HasRoom m) c.head → TupleFits names c args
+-- arguments of the sorts of variables fit a clause with plain indexes
+abbrev pub PlainTuplesFit : Type 0
+PlainTuplesFit = (names : NameList) (c : FlatClause) (args : List Arg) → IsFlat names c → AllZip (λ (v : Var) x. ArgFits (sorts names) v.sort x) c.vars args → All IsSmallArg args
+    → All (HasPlainIndexes names c) c.guard → All (HasPlainIndexes names c) c.head → TupleFits names c args
 
 -- ---- instances
 -- a line was added that is true exactly where the clause is at the values of the arguments

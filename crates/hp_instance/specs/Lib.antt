@@ -1,3 +1,4 @@
 pub mod Replacing
 pub mod Instances
+pub mod Plain
 pub mod Laws

@@ -18,9 +18,10 @@ use std::alloc::Global;
 /// atoms and then of the head atoms, each by the sort that its atom has in the clause. Applications at arguments are named
 /// first, those of the guard before those of the head. The origin of the line shows the arguments `shown`.
 ///
-/// It asks for arguments of the sorts of the variables that keep the numbers of indexes small: on each side of an atom of
-/// sort idx, and in the arguments of applications that are indexes. The first limit that is passed is the one that comes,
-/// with the item of the clause; at an error what was there before still is.
+/// It asks for arguments of the sorts of the variables that keep the numbers of indexes small: their numerators' magnitudes
+/// add up to at most 4 * 10^24 on each side of an atom of sort idx, outside of arguments, and to at most 2 * 10^24 in each
+/// argument of an application that is an index. The first limit that is passed is the one that comes, with the item of the
+/// clause; at an error what was there before still is.
 #[tactic(auto, using(hp_base::proofs::Making::begins_same, hp_base::proofs::Making::begins_trans))]
 pub fn instantiate(
     alloc: Global,

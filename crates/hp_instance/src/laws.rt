@@ -1,12 +1,12 @@
 //! What the lines of clauses at arguments say. None of these laws has a cause to fail: they speak of all clauses and
 //! arguments, and nothing is computed.
 
-ghost use Rattle.hp_instance.specs.Laws.{ArgumentsComeBack, InstancesSay, TuplesFit};
+ghost use Rattle.hp_instance.specs.Laws.{ArgumentsComeBack, InstancesSay, PlainTuplesFit};
 
-/// Arguments of the sorts of the variables fit a flat clause where each side of each atom has room for their offsets: the
-/// magnitudes of its numerators, and the bound on offsets once for each name, add up to at most 2 * 10^24.
-pub fn tuples_fit()
-    ensures { TuplesFit }
+/// Arguments of the sorts of the variables, with whole numbers of a magnitude of at most 2 * 10^24, fit a flat clause in which
+/// each argument that is an index is a variable alone or has none.
+pub fn plain_tuples_fit()
+    ensures { PlainTuplesFit }
 {}
 
 /// The line of a flat clause at arguments that fit is true exactly where the clause is at their values, where names have

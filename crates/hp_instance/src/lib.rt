@@ -10,5 +10,5 @@ mod sorting;
 mod tuple;
 
 pub use instances::instantiate;
-pub use laws::{arguments_come_back, instances_say, tuples_fit};
+pub use laws::{arguments_come_back, instances_say, plain_tuples_fit};
 pub use tuple::Tuple;

@@ -3,7 +3,8 @@
 ghost use Rattle.std.specs.Prelude.{◌≡◌, ◌<◌, ◌≤◌, ◌^◌, length};
 ghost use Rattle.std.specs.List.{AllZip};
 ghost use Rattle.hp_tree.specs.declared.problem.Sort.TheVariants.{Idx};
-ghost use Rattle.hp_terms.specs.Weight.{IsSmallOffset, largest_offset, weight};
+ghost use Rattle.hp_terms.specs.Weight.{weight};
+ghost use Rattle.hp_index.specs.Fit.{IsSmallSide, largest_side};
 ghost use Rattle.hp_index.specs.Forms.{index_of};
 ghost use Rattle.hp_linear.specs.Answers.{Answers, Pushed};
 ghost use Rattle.hp_base.specs.Lines.{literals_as};
@@ -99,9 +100,9 @@ fn push_index_atom(
 /// The form of an idx term whose numbers are not too large.
 fn small_form(index: &NameIndex, term: &Term) -> IndexForm
     requires few { length index.now < 2 ^ 28 }
-    requires light { weight term.now ≤ largest_offset }
+    requires light { weight term.now ≤ largest_side }
     ensures form { result ≡ index_of index.now term.now }
-    ensures small { IsSmallOffset result.offset }
+    ensures small { IsSmallSide result.offset }
 {
     match index_form(index, term) {
         Some(form) => form,

@@ -1,4 +1,4 @@
-mod Seeing
+pub mod Seeing
 mod Applications
 mod SameTrees
 mod TermKeys

@@ -1,5 +1,5 @@
 -- The load of a term: it is at most the weight, parts have no more in indexes, and it stays while names are added.
-use Rattle.std.proofs.Common.{◌≡◌, ℕ, ◌+◌, ◌≤◌, ◌<◌, zero, suc, List, [], ◌∷◌, map, length, get_or, slice_get, Option, Some, sym, ap, subst, ◌∙◌, arith, unsigned_abs}
+use Rattle.std.proofs.Common.{◌≡◌, ℕ, ◌+◌, ◌≤◌, ◌<◌, max, zero, suc, List, [], ◌∷◌, map, length, get_or, slice_get, Option, Some, sym, ap, subst, ◌∙◌, arith, unsigned_abs}
 use Rattle.std.specs.Prelude.{option_and_then, option_map, position}
 use Rattle.std.specs.Str.{bytes_eq}
 use Rattle.std.specs.List.{All, AllZip}
@@ -78,19 +78,19 @@ module _ (scope : Scope) where
   each_inner : (sorts : List Sort) (ts : List Term) → All (λ t. (load scope t).indexes ≤ arguments_load sorts (map (load scope) ts)) ts
   each_inner sorts [] = All-nil _
   each_inner [] (t ∷ ts) =
-      All-cons (λ u. (load scope u).indexes ≤ ((load scope t).indexes + arguments_load [] (map (load scope) ts))) t ts (omega arith)
-      (All-weaker (λ u. (load scope u).indexes ≤ arguments_load [] (map (load scope) ts)) (λ u. (load scope u).indexes ≤ ((load scope t).indexes + arguments_load [] (map (load scope) ts))) (λ u h. omega (arith, h)) ts (each_inner [] ts))
+      All-cons (λ u. (load scope u).indexes ≤ max (load scope t).indexes (arguments_load [] (map (load scope) ts))) t ts (omega arith)
+      (All-weaker (λ u. (load scope u).indexes ≤ arguments_load [] (map (load scope) ts)) (λ u. (load scope u).indexes ≤ max (load scope t).indexes (arguments_load [] (map (load scope) ts))) (λ u h. omega (arith, h)) ts (each_inner [] ts))
   each_inner (sort ∷ sorts) (t ∷ ts) =
       let own = inner_within sort (load scope t) in
-      All-cons (λ u. (load scope u).indexes ≤ (place_load sort (load scope t) + arguments_load sorts (map (load scope) ts))) t ts (omega (arith, own))
-      (All-weaker (λ u. (load scope u).indexes ≤ arguments_load sorts (map (load scope) ts)) (λ u. (load scope u).indexes ≤ (place_load sort (load scope t) + arguments_load sorts (map (load scope) ts))) (λ u h. omega (arith, h)) ts (each_inner sorts ts))
+      All-cons (λ u. (load scope u).indexes ≤ max (place_load sort (load scope t)) (arguments_load sorts (map (load scope) ts))) t ts (omega (arith, own))
+      (All-weaker (λ u. (load scope u).indexes ≤ arguments_load sorts (map (load scope) ts)) (λ u. (load scope u).indexes ≤ max (place_load sort (load scope t)) (arguments_load sorts (map (load scope) ts))) (λ u h. omega (arith, h)) ts (each_inner sorts ts))
 
   one_inner : (part : Term) (most : ℕ) → (load scope part).indexes ≤ most → All (λ p. (load scope p).indexes ≤ most) (part ∷ [])
   one_inner part most h = All-cons (λ p. (load scope p).indexes ≤ most) part [] h (All-nil (λ p. (load scope p).indexes ≤ most))
 
-  both_inner : (a b : Term) → All (λ p. (load scope p).indexes ≤ ((load scope a).indexes + (load scope b).indexes)) (a ∷ b ∷ [])
+  both_inner : (a b : Term) → All (λ p. (load scope p).indexes ≤ max (load scope a).indexes (load scope b).indexes) (a ∷ b ∷ [])
   both_inner a b =
-      let most = (load scope a).indexes + (load scope b).indexes in
+      let most = max (load scope a).indexes (load scope b).indexes in
       All-cons (λ p. (load scope p).indexes ≤ most) a (b ∷ []) (omega arith) (one_inner b most (omega arith))
 
   step_inner : (z : Term-F Term) → All (λ part. (load scope part).indexes ≤ (layer_load z).indexes) (parts_of z)

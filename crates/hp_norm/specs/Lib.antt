@@ -3,6 +3,7 @@ pub mod Loads
 pub mod Naming
 pub mod Trees
 pub mod Opening
+pub mod Plain
 pub mod Lines
 pub mod Testing
 pub mod Flat

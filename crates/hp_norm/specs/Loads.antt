@@ -1,6 +1,6 @@
--- How heavy a term is outside of arguments, and how heavy the arguments are that are indexes: what is added in an index stays
--- small where these are, however large the numbers of other arguments are.
-use Rattle.std.specs.Prelude.{◌≡◌, ℕ, ◌+◌, ◌≤◌, List, [], ◌∷◌, map, Option, Some, None, unsigned_abs}
+-- How heavy a term is outside of arguments, and how heavy the heaviest argument is that is an index: what is added in an index
+-- stays small where each of them is, however many there are and however large the numbers of other arguments are.
+use Rattle.std.specs.Prelude.{◌≡◌, ℕ, ◌+◌, ◌≤◌, max, List, [], ◌∷◌, map, Option, Some, None, unsigned_abs}
 use Rattle.hp_tree.specs.declared.term.Term.{Term, fold-Term}
 use Rattle.hp_tree.specs.declared.term.Term.TheOpen.{Term-F}
 use Rattle.hp_tree.specs.declared.problem.Sort.{Sort}
@@ -12,8 +12,8 @@ use Rattle.hp_terms.specs.Weight.{largest_offset, weight}
 use Rattle.hp_defs.specs.Names.{NameList}
 use Rattle.hp_norm.specs.Scopes.{term_scope}
 
--- the numbers of a term outside of arguments, added together by magnitude, and those of the arguments within it that are
--- indexes, each outside of its own arguments
+-- the numbers of a term outside of arguments, added together by magnitude, and the greatest such sum of an argument within it
+-- that is an index, each outside of its own arguments
 pub record Load : Type 0 where
   pub own : ℕ
   pub indexes : ℕ
@@ -22,19 +22,20 @@ abbrev pub own_load : ℕ → Load
 own_load n = record { own = n; indexes = 0 }
 
 abbrev pub both_loads : Load → Load → Load
-both_loads a b = record { own = a.own + b.own; indexes = a.indexes + b.indexes }
+both_loads a b = record { own = a.own + b.own; indexes = max a.indexes b.indexes }
 
 -- ---- arguments
+-- the greatest load of an index in an argument at a place of a sort, of itself where that is the place of one
 abbrev pub place_load : Sort → Load → ℕ
 place_load Num x = x.indexes
-place_load Idx x = x.own + x.indexes
+place_load Idx x = max x.own x.indexes
 place_load Ptr x = x.indexes
 
--- of arguments at places of these sorts
+-- the greatest of arguments at places of these sorts
 abbrev pub arguments_load : List Sort → List Load → ℕ
 arguments_load sorts [] = 0
-arguments_load [] (x ∷ xs) = x.indexes + arguments_load [] xs
-arguments_load (sort ∷ sorts) (x ∷ xs) = place_load sort x + arguments_load sorts xs
+arguments_load [] (x ∷ xs) = max x.indexes (arguments_load [] xs)
+arguments_load (sort ∷ sorts) (x ∷ xs) = max (place_load sort x) (arguments_load sorts xs)
 
 abbrev pub argument_sorts : Option Profile → List Sort
 argument_sorts None = []
@@ -58,11 +59,11 @@ places_of scope word = argument_sorts (scope.function word)
 abbrev pub load : Scope → Term → Load
 load scope = fold-Term Load (load_step (places_of scope))
 
--- the arguments that are indexes have small numbers together
+-- each argument that is an index has small numbers together
 abbrev pub HasLightIndexes : Scope → Term → Type 0
 HasLightIndexes scope term = (load scope term).indexes ≤ largest_offset
 
--- and so have arguments over names, at places of these sorts
+-- and so has each that is one of these arguments over names, at places of these sorts, or that is in one of them
 abbrev pub ArgumentsAreLight : NameList → List Sort → List Term → Type 0
 ArgumentsAreLight names sorts args = arguments_load sorts (map (load (term_scope names)) args) ≤ largest_offset
 

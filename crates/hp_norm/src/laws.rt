@@ -10,7 +10,7 @@ pub fn flattening_says()
     ensures { FlatteningSays }
 {}
 
-/// Atoms over the names of a ground set become atoms without applications, where the arguments that are indexes have small
+/// Atoms over the names of a ground set become atoms without applications, where each argument that is an index has small
 /// numbers: they keep their sorts and their truth in each ground set that grows from there, and the numbers of no side grow.
 pub fn atoms_are_named()
     ensures { AtomsAreNamed }

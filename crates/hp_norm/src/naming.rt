@@ -22,8 +22,8 @@ use std::alloc::{AllocError, Global};
 /// The term of an item with a name for each of its applications: the word of the definition, found or made. An application
 /// of a function that there isn't becomes null.
 ///
-/// It asks for a term of which the arguments that are indexes have small numbers: the magnitudes of their numerators add up
-/// to at most 2 * 10^24, each outside of its own arguments; other numbers may be large. The numbers of the result add up to
+/// It asks for a term of which each argument that is an index has small numbers: the magnitudes of its numerators, outside of
+/// its own arguments, add up to at most 2 * 10^24; other numbers may be large. The numbers of the result add up to
 /// no more than those of the term outside of arguments. The limits are those of definitions and arguments, in the order of
 /// their making, with this item, counted from 1; at an error what was there before still is.
 #[tactic(auto, using(hp_base::proofs::Making::begins_same, hp_base::proofs::Making::begins_trans, crate::proofs::Loads::light_later, crate::proofs::Loads::difference_later))]
@@ -151,7 +151,7 @@ fn placed_argument(
 
 /// The atoms of an item with names for their applications, in their order.
 ///
-/// It asks for atoms of which the arguments that are indexes have small numbers, on each side as in `named`. The numbers of a
+/// It asks for atoms of which each argument that is an index has small numbers, as in `named`. The numbers of a
 /// side of the result add up to no more than those of that side outside of arguments. The first limit that is passed is the
 /// one that comes, with this item, counted from 1; at an error what was there before still is.
 pub fn named_atoms(

@@ -22,7 +22,7 @@ use Rattle.hp_index.proofs.Layers.{Parts, bare, by_layers}
 use Rattle.hp_norm.specs.declared.flat.FlatClause.{FlatClause}
 use Rattle.hp_norm.specs.Flat.{IsFlat}
 use Rattle.hp_norm.specs.Scopes.{clause_scope, signature_named}
-use Rattle.hp_ruled.proofs.Seeing.{by_term_roll}
+use Rattle.hp_norm.proofs.Seeing.{by_term_roll}
 use Rattle.hp_class.specs.Small.{HasFewArguments}
 use Rattle.hp_flatten.specs.declared.application.Application.{Application}
 use Rattle.hp_flatten.specs.Applications.{application_of, applications, applications_step, atoms_applications, clause_applications}

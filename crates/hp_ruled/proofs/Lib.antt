@@ -1,4 +1,3 @@
-pub mod Seeing
 pub mod Reading
 pub mod Placing
 pub mod Applications

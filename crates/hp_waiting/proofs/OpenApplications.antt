@@ -10,7 +10,7 @@ use Rattle.hp_tree.specs.Value.{Word}
 use Rattle.hp_terms.specs.Occurring.{joined}
 use Rattle.hp_norm.specs.Opening.{mentions}
 use Rattle.hp_waiting.specs.Waiting.{open_functions, open_step}
-use Rattle.hp_waiting.proofs.Seeing.{by_term_apply, by_term_roll}
+use Rattle.hp_norm.proofs.Seeing.{by_term_apply, by_term_roll}
 
 module _ (vars : List Var) (term : Term) where
   module _ (func : Word) (args : List Term) (is : term ≡ Apply func args) where
