@@ -30,13 +30,13 @@ use Rattle.hp_class.proofs.GroupsMade.{groups_are_sound}
 use Rattle.hp_groups.specs.declared.group.Group.{Group}
 use Rattle.hp_groups.specs.contracts.group.GroupLocalClass.TheImpl.{ghosts}
 use Rattle.hp_groups.specs.contracts.group.GroupLocalClass.TheImpl.Laws as laws
-use Rattle.hp_groups.specs.Groups.{group_at, group_from, groups_of}
+use Rattle.hp_groups.specs.Groups.{Reading, group_at, group_from, groups_of}
 use Rattle.hp_groups.proofs.Classes.{one_table}
-use Rattle.hp_chain.specs.Ground.{IsGroundOf, chain_of}
+use Rattle.hp_chain.specs.Ground.{IsGroundOf, Read, chain_of, read_of}
 use Rattle.hp_chain.specs.Order.{function_order, levels_of}
 use Rattle.hp_chain.specs.Slots.{HasPlaces}
 use Rattle.hp_chain.specs.Structures.{tables_from}
-use Rattle.hp_chain.proofs.Chained.{chain_lent, functions_many, is_ready, order_known}
+use Rattle.hp_chain.proofs.Chained.{chain_lent, functions_many, is_ready, order_known, read_is, readable}
 use Rattle.hp_chain.proofs.Levels.{levels_many, order_inside}
 use Rattle.hp_chain.proofs.ValuesDeclared.{levels_within}
 use Rattle.hp_chain.proofs.ValuesDescended.{descended}
@@ -67,100 +67,102 @@ order_places p g is = record {
 
 -- ---- names that have grown
 module _ (p : Problem) (g : Ground) (is : IsGroundOf p g) where
-  has_been_made : HasBeenMade is.base g
-  has_been_made = groups_are_sound Group ghosts.grow_of ghosts.own ghosts.applied ghosts.clauses ghosts.plan_of ghosts.IsLent (chain_of p is.flats is.base) is.base g (descended p g is)
+  has_been_made : HasBeenMade is.read.1 g
+  has_been_made = groups_are_sound Group ghosts.grow_of ghosts.own ghosts.applied ghosts.clauses ghosts.plan_of ghosts.IsLent (chain_of p is.read) is.read.1 g (descended p g is)
 
   pub ground_sound : IsSound g
   ground_sound = has_been_made.sound
 
-  pub ground_signatures : g.names.signatures ≡ is.base.names.signatures
+  pub ground_signatures : g.names.signatures ≡ is.read.1.names.signatures
   ground_signatures = has_been_made.begins.signatures
 
-  pub ground_lent : All (λ c. ghosts.IsLent c g.names) (chain_of p is.flats is.base)
+  pub ground_lent : All (λ c. ghosts.IsLent c g.names) (chain_of p is.read)
   ground_lent =
-      All-weaker (λ (c : Group). ghosts.IsLent c is.base.names) (λ (c : Group). ghosts.IsLent c g.names)
-      (λ c lent. laws.stays_lent-law c is.base.names g.names lent (begins_names is.base g has_been_made.begins) has_been_made.sound.made)
-      (chain_of p is.flats is.base) (chain_lent p is.flats is.base is.able is.limits is.named is.taken)
+      All-weaker (λ (c : Group). ghosts.IsLent c is.read.1.names) (λ (c : Group). ghosts.IsLent c g.names)
+      (λ c lent. laws.stays_lent-law c is.read.1.names g.names lent (begins_names is.read.1 g has_been_made.begins) has_been_made.sound.made)
+      (chain_of p is.read) (chain_lent p is.read (readable p is.read.0 is.read.1 is.able is.limits is.taken is.plain))
 
 -- ---- tables
-module _ (clauses : List FlatClause) (size : ℕ) (names : NameList) (v : Values) where
+module _ (read : Reading) (size : ℕ) (names : NameList) (v : Values) where
   -- the one table of the group of a function
   abbrev table_with : ℕ → Option Signature → Table
   table_with func None = record { func = []; args = 0; rows = []; otherwise = Null }
-  table_with func (Some s) = (one_table func s clauses size names v).0
+  table_with func (Some s) = (one_table func s read size names v).0
 
   abbrev pub table_at : List Signature → ℕ → Table
   table_at ss func = table_with func (slice_get ss func)
 
   -- groups in an order give the tables in this order
   pub tables_in_turn : (ss : List Signature) (order : List ℕ) → All (λ func. func < length ss) order
-      → flat_map (λ c. ghosts.tables_of c size names v) (groups_of clauses ss order) ≡ map (table_at ss) order
+      → flat_map (λ c. ghosts.tables_of c size names v) (groups_of read ss order) ≡ map (table_at ss) order
   tables_in_turn ss [] known = refl
   tables_in_turn ss (func ∷ funcs) known =
       let got = got_one ss func (All-head (λ k. k < length ss) func funcs known) in
-      let rest = groups_of clauses ss funcs in
+      let rest = groups_of read ss funcs in
       let give = λ (c : Group). ghosts.tables_of c size names v in
-      ap (λ o. flat_map give (group_at clauses func o ++ rest)) got.1
-      ∙ ap (λ ts. ts ++ flat_map give rest) (one_table func got.0 clauses size names v).1
+      ap (λ o. flat_map give (group_at read func o ++ rest)) got.1
+      ∙ ap (λ ts. ts ++ flat_map give rest) (one_table func got.0 read size names v).1
       ∙ (λ i. table_with func (sym got.1 i) ∷ tables_in_turn ss funcs (All-tail (λ k. k < length ss) func funcs known) i)
 
   -- the tables of functions that follow one another
   pub tables_declared : (all ss : List Signature) (from : ℕ) → ((k : ℕ) (s : Signature) → slice_get ss k ≡ Some s → slice_get all (from + k) ≡ Some s)
-      → tables_from clauses size from ss names v ≡ map (table_at all) (range_with_len from (length ss))
+      → tables_from read size from ss names v ≡ map (table_at all) (range_with_len from (length ss))
   tables_declared all [] from there = refl
   tables_declared all (s ∷ ss) from there =
       let here : slice_get all from ≡ Some s = (let e : from ≡ from + 0 = omega arith in ap (λ k. slice_get all k) e ∙ there 0 s refl) in
       let next = λ (k : ℕ) (t : Signature) (e : slice_get ss k ≡ Some t). (let at : suc from + k ≡ from + suc k = omega arith in ap (λ j. slice_get all j) at ∙ there (suc k) t e) in
-      ap (λ ts. ts ++ tables_from clauses size (suc from) ss names v) (one_table from s clauses size names v).1
+      ap (λ ts. ts ++ tables_from read size (suc from) ss names v) (one_table from s read size names v).1
       ∙ (λ i. table_with from (sym here i) ∷ tables_declared all ss (suc from) next i)
       ∙ ap (λ k. table_at all from ∷ map (table_at all) (range_with_len k (length ss))) (sym (add-one from))
 
 module _ (p : Problem) (g : Ground) (is : IsGroundOf p g) (groups : List Group) (size : ℕ) (v : Values) where
   abbrev each_table : ℕ → Table
-  each_table = table_at is.flats size g.names v g.names.signatures
+  each_table = table_at is.read.0 size g.names v g.names.signatures
 
   -- the tables of groups stand in the order of turns
-  tables_turned : (tables : List Table) (order : List ℕ) → groups ≡ chain_of p is.flats is.base → order ≡ function_order p.decls
+  tables_turned : (tables : List Table) (order : List ℕ) → groups ≡ chain_of p is.read → order ≡ function_order p.decls
       → tables ≡ flat_map (λ c. ghosts.tables_of c size g.names v) groups → tables ≡ map each_table order
   tables_turned tables order same turn all =
       let signatures = ground_signatures p g is in
-      let known = subst (λ (ks : List Signature). All (λ func. func < length ks) (function_order p.decls)) (sym signatures) (order_known p is.flats is.base is.able is.limits is.named) in
-      let declared = same ∙ ap (λ ks. groups_of is.flats ks (function_order p.decls)) (sym signatures) in
-      all ∙ ap (flat_map (λ (c : Group). ghosts.tables_of c size g.names v)) declared ∙ tables_in_turn is.flats size g.names v g.names.signatures (function_order p.decls) known
+      let known = subst (λ (ks : List Signature). All (λ func. func < length ks) (function_order p.decls)) (sym signatures) (order_known p is.read.0.flats is.read.1 is.able is.limits is.taken.named) in
+      let declared = same ∙ ap (λ ks. groups_of is.read.0 ks (function_order p.decls)) (sym signatures) in
+      all ∙ ap (flat_map (λ (c : Group). ghosts.tables_of c size g.names v)) declared ∙ tables_in_turn is.read.0 size g.names v g.names.signatures (function_order p.decls) known
       ∙ ap (map each_table) (sym turn)
 
   -- one for each turn
-  pub tables_many : (tables : List Table) (order : List ℕ) → groups ≡ chain_of p is.flats is.base → order ≡ function_order p.decls
+  pub tables_many : (tables : List Table) (order : List ℕ) → groups ≡ chain_of p is.read → order ≡ function_order p.decls
       → tables ≡ flat_map (λ c. ghosts.tables_of c size g.names v) groups → length tables ≡ length order
   tables_many tables order same turn all = ap length (tables_turned tables order same turn all) ∙ length-map order each_table
 
   -- and put into the order of declarations they are those of the structure
-  tables_ordered : {E : Type 0} (n : ℕ) (tables : List Table) (order : List ℕ) (r : Result (List Table) E) → groups ≡ chain_of p is.flats is.base → n ≡ length (levels_of p.decls)
+  tables_ordered : {E : Type 0} (n : ℕ) (tables : List Table) (order : List ℕ) (r : Result (List Table) E) → groups ≡ chain_of p is.read → n ≡ length (levels_of p.decls)
       → order ≡ function_order p.decls → tables ≡ flat_map (λ c. ghosts.tables_of c size g.names v) groups
       → IfOk r (λ made. (f : ℕ → Table) → tables ≡ map f order → made ≡ map f (range_with_len 0 n))
-      → IfOk r (λ made. made ≡ tables_from is.flats size 0 g.names.signatures g.names v)
+      → IfOk r (λ made. made ≡ tables_from is.read.0 size 0 g.names.signatures g.names v)
   tables_ordered n tables order (Err e) same many turn all out = out
   tables_ordered n tables order (Ok made) same many turn all out =
       let ss = g.names.signatures in
-      let count = many ∙ functions_many p is.flats is.base is.able is.limits is.named ∙ ap length (sym (ground_signatures p g is)) in
+      let count = many ∙ functions_many p is.read.0.flats is.read.1 is.able is.limits is.taken.named ∙ ap length (sym (ground_signatures p g is)) in
       out each_table (tables_turned tables order same turn all) ∙ ap (λ k. map each_table (range_with_len 0 k)) count
-      ∙ sym (tables_declared is.flats size g.names v ss ss 0 (λ k s e. (let at : 0 + k ≡ k = omega arith in ap (λ j. slice_get ss j) at ∙ e)))
+      ∙ sym (tables_declared is.read.0 size g.names v ss ss 0 (λ k s e. (let at : 0 + k ≡ k = omega arith in ap (λ j. slice_get ss j) at ∙ e)))
 
 -- ---- however a ground set is known
-first_same : {A B E : Type 0} (r : Result (A × B) E) (x y : A × B) → r ≡ Ok x → r ≡ Ok y → x.0 ≡ y.0
-first_same r x y e f = let same : x ≡ y = cc in ap (λ z. z.0) same
+value_same : {A E : Type 0} (r : Result A E) (x y : A) → r ≡ Ok x → r ≡ Ok y → x ≡ y
+value_same r x y e f = cc
 
-pub same_flats : (p : Problem) (g : Ground) (one other : IsGroundOf p g) → one.flats ≡ other.flats
-same_flats p g one other = first_same (flat_of p) (one.flats, one.base) (other.flats, other.base) one.named other.named
+pub same_flats : (p : Problem) (g : Ground) (one other : IsGroundOf p g) → one.read.0 ≡ other.read.0
+same_flats p g one other =
+    let is = λ (at : IsGroundOf p g). read_is p at.read.0.flats at.read.1 at.taken.named at.read.0.ruled at.taken.rules_give in
+    ap (λ (x : Read). x.0) (value_same (read_of p) one.read other.read (is one) (is other))
 
 pub tables_said : {E : Type 0} (p : Problem) (g : Ground) (is : IsGroundOf p g) (groups : List Group) (size : ℕ) (v : Values) (n : ℕ) (tables : List Table) (order : List ℕ) (r : Result (List Table) E)
-    → groups ≡ chain_of p is.flats is.base → n ≡ length (levels_of p.decls) → order ≡ function_order p.decls → tables ≡ flat_map (λ c. ghosts.tables_of c size g.names v) groups
+    → groups ≡ chain_of p is.read → n ≡ length (levels_of p.decls) → order ≡ function_order p.decls → tables ≡ flat_map (λ c. ghosts.tables_of c size g.names v) groups
     → IfOk r (λ made. (f : ℕ → Table) → tables ≡ map f order → made ≡ map f (range_with_len 0 n))
-    → IfOk r (λ made. (other : IsGroundOf p g) → made ≡ tables_from other.flats size 0 g.names.signatures g.names v)
+    → IfOk r (λ made. (other : IsGroundOf p g) → made ≡ tables_from other.read.0 size 0 g.names.signatures g.names v)
 tables_said p g is groups size v n tables order (Err e) same many turn all out = out
 tables_said {E} p g is groups size v n tables order (Ok made) same many turn all out = λ other.
     tables_ordered p g is groups size v {E = E} n tables order (Ok made) same many turn all out
-    ∙ ap (λ flats. tables_from flats size 0 g.names.signatures g.names v) (same_flats p g is other)
+    ∙ ap (λ read. tables_from read size 0 g.names.signatures g.names v) (same_flats p g is other)
 
 pub all_ready : (names : NameList) (v : Values) (groups : List Group) → All (λ c. ghosts.Ready c names v) groups
 all_ready names v groups = λ k d within. is_ready (slice_index_or groups k d) names v

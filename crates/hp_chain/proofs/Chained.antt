@@ -1,30 +1,53 @@
 -- The groups of a problem over the ground set of its clauses without variables, and what they make.
-use Rattle.std.proofs.Common.{◌≡◌, ◌∙◌, ◌<◌, ℕ, List, [], ◌∷◌, length, Some, None, Result, Ok, Err, sym, ap, subst}
+use Rattle.std.proofs.Common.{◌≡◌, ◌∙◌, ◌<◌, ℕ, List, [], ◌∷◌, length, false, Some, None, Result, Ok, Err, sym, ap, subst}
 use Rattle.std.specs.List.{All, AllZip}
-use Rattle.std.proofs.lemmas.List.Elements.{All-cons, All-nil}
+use Rattle.std.proofs.lemmas.List.Elements.{All-cons, All-head, All-nil, All-tail}
 use Rattle.hp_tree.specs.declared.limit.Limit.{Limit as Which}
 use Rattle.hp_tree.specs.declared.problem.Clause.{Clause}
+use Rattle.hp_tree.specs.declared.problem.Decl.{Decl}
+use Rattle.hp_tree.specs.declared.problem.Decl.TheVariants.{Const, Fun}
 use Rattle.hp_tree.specs.declared.problem.Problem.{Problem}
+use Rattle.hp_names.specs.Names.{is_among}
+use Rattle.hp_terms.specs.Words.{declared_word}
+use Rattle.hp_lit.specs.declared.refusal.GroundErr.{GroundErr}
+use Rattle.hp_lit.specs.declared.refusal.GroundErr.TheVariants as stop
 use Rattle.hp_lit.specs.Truth.{Values}
+use Rattle.hp_local.specs.Rows.{argument_words}
 use Rattle.hp_sorts.specs.Limits.{passed}
+use Rattle.hp_defs.specs.declared.names.Constant.{Constant}
 use Rattle.hp_defs.specs.declared.names.Ground.{Ground}
 use Rattle.hp_defs.specs.declared.names.Signature.{Signature}
-use Rattle.hp_defs.specs.Names.{NameList}
+use Rattle.hp_defs.specs.Names.{NameList, count}
+use Rattle.hp_base.specs.Making.{Makes}
 use Rattle.hp_base.proofs.Making.{begins_same}
 use Rattle.hp_norm.specs.declared.flat.FlatClause.{FlatClause}
 use Rattle.hp_norm.specs.Flat.{IsFlat, IsFlatOf, IsFlattenable, IsFlattened, flat_of, with_variables}
+use Rattle.hp_norm.specs.Lines.{constants_of}
 use Rattle.hp_norm.specs.Sound.{IsLater}
 use Rattle.hp_norm.proofs.ProblemsFlat.{flattening_says}
 use Rattle.hp_class.specs.Small.{HasFewArguments}
+use Rattle.hp_flatten.specs.Laws.{HasPlainConstant, HasPlainConstants}
+use Rattle.hp_pairs.specs.declared.answer.PairErr.{PairErr}
+use Rattle.hp_pairs.specs.declared.answer.PairErr.TheVariants as pair
+use Rattle.hp_flatten.proofs.IsFlat.{flattened_is_flat}
+use Rattle.hp_flatten.proofs.One.{flattened_has_one}
+use Rattle.hp_pairs.specs.Answers.{BranchIsFit, Separates}
+use Rattle.hp_rules.specs.declared.ruled.RuleErr.{RuleErr}
+use Rattle.hp_rules.specs.declared.ruled.RuleErr.TheVariants as rule
+use Rattle.hp_rules.specs.declared.ruled.Ruled.{Ruled}
+use Rattle.hp_rules.specs.Answers.{RuledAs}
+use Rattle.hp_rules.specs.Rules.{rule_words, rules}
+use Rattle.hp_ruled.specs.Laws.{AreRuled}
+use Rattle.hp_ruled.proofs.Branches.{branches_fit}
 use Rattle.hp_groups.specs.declared.group.Group.{Group}
-use Rattle.hp_groups.specs.declared.group.Group.TheVariants.{Free, Monotone}
-use Rattle.hp_groups.specs.declared.refused.Refused.{Refused}
+use Rattle.hp_groups.specs.declared.group.Group.TheVariants.{Cases, Free, Monotone}
 use Rattle.hp_groups.specs.contracts.group.GroupLocalClass.TheImpl.{ghosts}
-use Rattle.hp_groups.specs.Groups.{groups_made, groups_of}
-use Rattle.hp_groups.specs.Rules.{first_refused}
-use Rattle.hp_groups.proofs.Classes.{groups_lent}
+use Rattle.hp_groups.specs.Groups.{Reading, groups_made}
+use Rattle.hp_groups.proofs.Classes.{IsReadable, groups_lent}
 use Rattle.hp_chain.specs.declared.answer.ChainErr.TheVariants as refusal
-use Rattle.hp_chain.specs.Ground.{chain_of, flattened, ground_of, grouped, levelled}
+use Rattle.hp_chain.specs.declared.chain.Chain.{Chain}
+use Rattle.hp_chain.specs.Answers.{ClassifiedAs, DescendedAs}
+use Rattle.hp_chain.specs.Ground.{HasPlainNames, IsReadAs, Read, alone, chain_of, flattened, making, met_by, naming, paired, pairs_of, read_of, refused_by, ruled}
 use Rattle.hp_chain.specs.Order.{function_order, levels_of}
 use Rattle.hp_chain.proofs.Levels.{levels_many, order_inside}
 use Rattle.hp_chain.proofs.ValuesDeclared.{all_few_arguments, few_arguments_of}
@@ -34,6 +57,14 @@ all_flat g later [] [] are = All-nil (IsFlat g.names)
 all_flat g later [] (c ∷ flats) are = absurd are
 all_flat g later (clause ∷ clauses) [] are = absurd are
 all_flat g later (clause ∷ clauses) (c ∷ flats) are = All-cons (IsFlat g.names) c flats (are.0.flat g later) (all_flat g later clauses flats are.1)
+
+-- a name that is no word of an argument
+all_plain : (ds : List Decl) → All (λ d. is_among (declared_word d) argument_words ≡ false) ds → All HasPlainConstant (constants_of ds)
+all_plain [] plain = All-nil HasPlainConstant
+all_plain (Const name sort ∷ ds) plain =
+    All-cons HasPlainConstant (record { name = name; sort = sort }) (constants_of ds) (All-head (λ d. is_among (declared_word d) argument_words ≡ false) (Const name sort) ds plain)
+    (all_plain ds (All-tail (λ d. is_among (declared_word d) argument_words ≡ false) (Const name sort) ds plain))
+all_plain (Fun name args result level ∷ ds) plain = all_plain ds (All-tail (λ d. is_among (declared_word d) argument_words ≡ false) (Fun name args result level) ds plain)
 
 -- ---- what groups ask for
 module _ (p : Problem) (flats : List FlatClause) (base : Ground) (able : IsFlattenable p) (limits : passed p ≡ None) (named : flat_of p ≡ Ok (flats, base)) where
@@ -52,22 +83,74 @@ module _ (p : Problem) (flats : List FlatClause) (base : Ground) (able : IsFlatt
   pub order_known : All (λ func. func < length base.names.signatures) (function_order p.decls)
   order_known = subst (λ n. All (λ func. func < n) (function_order p.decls)) functions_many (order_inside 16 (levels_of p.decls))
 
-  pub chain_lent : first_refused base.names flats ≡ None → All (λ c. ghosts.IsLent c base.names) (chain_of p flats base)
-  chain_lent taken = groups_lent base.names flats (function_order p.decls) is_flattened.sound.made taken flats_are_flat few_arguments_each
+  pub plain_constants : HasPlainNames p → HasPlainConstants base.names
+  plain_constants plain = subst (λ (cs : List Constant). All HasPlainConstant cs) (sym is_flattened.constants) (all_plain p.decls plain)
+
+-- what the rules give the classes
+pub readable : (p : Problem) (read : Reading) (base : Ground) → IsFlattenable p → passed p ≡ None → IsReadAs p (read, base) → HasPlainNames p → IsReadable base.names read
+readable p read base able limits taken plain = record {
+  ruled = record {
+    made = (is_flattened p read.flats base able limits taken.named).sound.made;
+    flat = flats_are_flat p read.flats base able limits taken.named;
+    constants = plain_constants p read.flats base able limits taken.named plain;
+    few = few_arguments_each p read.flats base able limits taken.named;
+    ruled_is = taken.rules_give;
+  };
+  unmet = taken.apart;
+}
+
+pub are_ruled : (p : Problem) (flats : List FlatClause) (base : Ground) (found : Ruled) → IsFlattenable p → passed p ≡ None → flat_of p ≡ Ok (flats, base) → HasPlainNames p
+    → rules base.names flats ≡ Ok found → AreRuled base.names flats found
+are_ruled p flats base found able limits named plain gives = record {
+  made = (is_flattened p flats base able limits named).sound.made;
+  flat = flats_are_flat p flats base able limits named;
+  constants = plain_constants p flats base able limits named plain;
+  few = few_arguments_each p flats base able limits named;
+  ruled_is = gives;
+}
+
+-- the rows of cases can be decided
+pub rows_fit : (p : Problem) (flats : List FlatClause) (base : Ground) (found : Ruled) → IsFlattenable p → passed p ≡ None → flat_of p ≡ Ok (flats, base) → HasPlainNames p
+    → rules base.names flats ≡ Ok found → All BranchIsFit found.branches
+rows_fit p flats base found able limits named plain gives =
+    branches_fit flattened_is_flat flattened_has_one base.names flats found (are_ruled p flats base found able limits named plain gives)
+
+-- the limit that groups pass
+pub by_groups : (p : Problem) (chain : Chain) (read : Reading) (base new : Ground) (e : GroundErr) → IsReadAs p (read, base) → chain.groups ≡ chain_of p (read, base)
+    → Makes (groups_made chain.groups) base new (Err e) → DescendedAs p chain (Err e)
+by_groups p chain read base new (stop.Limit l) taken same h = making (read, base) taken (ap (λ (gs : List Group). groups_made gs base) (sym same) ∙ h)
+by_groups p chain read base new stop.Memory taken same h = tt
+
+pub chain_lent : (p : Problem) (read : Read) → IsReadable read.1.names read.0 → All (λ c. ghosts.IsLent c read.1.names) (chain_of p read)
+chain_lent p read is = groups_lent read.1.names read.0 (function_order p.decls) is
 
 -- groups of these classes are always ready to give tables
 pub is_ready : (c : Group) (names : NameList) (v : Values) → ghosts.Ready c names v
 is_ready (Free c) names v = tt
 is_ready (Monotone c) names v = tt
+is_ready (Cases c) names v = tt
 
--- ---- the ground set, or why there is none
+-- ---- why there are no groups
 module _ (p : Problem) where
-  pub ground_limit : (l : Which) → flat_of p ≡ Err l → ground_of p ≡ Err (refusal.Limit l)
-  ground_limit l named = ap (flattened p) named
+  pub read_limit : (l : Which) → flat_of p ≡ Err l → read_of p ≡ Err (refusal.Limit l)
+  read_limit l named = ap flattened named
 
   module _ (flats : List FlatClause) (base : Ground) (named : flat_of p ≡ Ok (flats, base)) where
-    pub ground_outside : (r : Refused) → first_refused base.names flats ≡ Some r → ground_of p ≡ Err (refusal.Refused r)
-    ground_outside r e = ap (flattened p) named ∙ ap (grouped p flats base) e
+    pub read_is : (found : Ruled) → rules base.names flats ≡ Ok found → read_of p ≡ Ok (record { flats = flats; ruled = found }, base)
+    read_is found e = ap flattened named ∙ ap (ruled flats base) e
 
-    pub ground_grouped : first_refused base.names flats ≡ None → (l : Which) → groups_made (chain_of p flats base) base ≡ Err l → ground_of p ≡ Err (refusal.Limit l)
-    ground_grouped taken l made = ap (flattened p) named ∙ ap (grouped p flats base) taken ∙ ap levelled made
+    -- a rule that one clause breaks
+    pub by_rules : (e : RuleErr) → RuledAs base.names flats (Err e) → ClassifiedAs p (Err (refused_by e))
+    by_rules (rule.Outside o) h = alone (ap flattened named ∙ ap (ruled flats base) h)
+    by_rules (rule.Limit l) h = naming (ap flattened named ∙ ap (ruled flats base) h)
+    by_rules rule.Memory h = tt
+
+    module _ (found : Ruled) (gives : rules base.names flats ≡ Ok found) where
+      abbrev these : Read
+      these = (record { flats = flats; ruled = found }, base)
+
+      -- a rule that two clauses break
+      pub by_pairs : (e : PairErr) → Separates (rule_words base.names) (count base.names) (pairs_of these) (Err e) → ClassifiedAs p (Err (met_by e))
+      by_pairs (pair.Outside o) h = paired these (read_is found gives) h
+      by_pairs (pair.Strain s) h = record { read = these; is = read_is found gives; first = h }
+      by_pairs pair.Memory h = tt

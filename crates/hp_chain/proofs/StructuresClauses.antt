@@ -13,6 +13,7 @@ use Rattle.hp_tree.specs.Value.{Environment, Functions}
 use Rattle.hp_lit.specs.Sorts.{HaveSorts}
 use Rattle.hp_lit.specs.Truth.{Values}
 use Rattle.hp_local.proofs.Lists.{All-by}
+use Rattle.hp_defs.specs.Names.{NameList}
 use Rattle.hp_defs.specs.declared.names.Ground.{Ground}
 use Rattle.hp_defs.specs.declared.names.Signature.{Signature}
 use Rattle.hp_defs.specs.Names.{sorts}
@@ -22,8 +23,8 @@ use Rattle.hp_norm.specs.Laws.{AgreeOnConstants, ClausesHoldAtOnce, ClausesNeedC
 use Rattle.hp_norm.specs.Sound.{AreTrue, AreValues, IsLater}
 use Rattle.hp_groups.specs.declared.group.Group.{Group}
 use Rattle.hp_groups.specs.contracts.group.GroupLocalClass.TheImpl.{ghosts}
-use Rattle.hp_groups.specs.Groups.{group_at, group_from, groups_of}
-use Rattle.hp_groups.proofs.Classes.{clauses_among}
+use Rattle.hp_groups.specs.Groups.{Reading, group_at, group_from, groups_of}
+use Rattle.hp_groups.proofs.Classes.{HoldsFlat, IsReadable, group_holds}
 
 -- ---- lists
 -- what holds of all clauses holds of those with variables, and of those without
@@ -42,21 +43,18 @@ all_without P (clause ∷ clauses) all =
 
 -- ---- groups
 -- what holds of all flat clauses holds of those of each group
-module _ (P : FlatClause → Type 0) (flats : List FlatClause) (all : All P flats) where
+module _ (names : NameList) (read : Reading) (is : IsReadable names read) (size : ℕ) (env : Environment) (functions : Functions) (all : All (HoldsFlat size env functions) read.flats) where
   abbrev HoldsOfGroup : Group → Type 0
-  HoldsOfGroup c = All P (ghosts.clauses c)
+  HoldsOfGroup c = All (HoldsFlat size env functions) (ghosts.clauses c)
 
-  of_one : (func : ℕ) (s : Signature) → HoldsOfGroup (group_from func s flats)
-  of_one func s = All-by P (ghosts.clauses (group_from func s flats)) (λ k m. All-contains P flats k all (clauses_among func s flats k m))
-
-  of_place : (func : ℕ) (o : Option Signature) → All HoldsOfGroup (group_at flats func o)
+  of_place : (func : ℕ) (o : Option Signature) → All HoldsOfGroup (group_at read func o)
   of_place func None = All-nil HoldsOfGroup
-  of_place func (Some s) = All-cons HoldsOfGroup (group_from func s flats) [] (of_one func s) (All-nil HoldsOfGroup)
+  of_place func (Some s) = All-cons HoldsOfGroup (group_from func s read) [] (group_holds names read is size env functions all func s) (All-nil HoldsOfGroup)
 
-  pub of_groups : (ss : List Signature) (funcs : List ℕ) → All HoldsOfGroup (groups_of flats ss funcs)
+  pub of_groups : (ss : List Signature) (funcs : List ℕ) → All HoldsOfGroup (groups_of read ss funcs)
   of_groups ss [] = All-nil HoldsOfGroup
   of_groups ss (func ∷ funcs) =
-      All-append HoldsOfGroup (group_at flats func (slice_get ss func)) (groups_of flats ss funcs) (of_place func (slice_get ss func)) (of_groups ss funcs)
+      All-append HoldsOfGroup (group_at read func (slice_get ss func)) (groups_of read ss funcs) (of_place func (slice_get ss func)) (of_groups ss funcs)
 
 -- ---- values of all names
 module _ (size : ℕ) (base end : Ground) (v : Values) (env : Environment) (functions : Functions) (later : IsLater base end) (values : AreValues end v env functions) where

@@ -28,6 +28,7 @@ use Rattle.hp_groups.specs.contracts.group.GroupLocalClass.TheImpl.{ghosts}
 use Rattle.hp_chain.specs.Ground.{chain_of}
 use Rattle.hp_chain.specs.Laws.{StructuresGiveValues}
 use Rattle.hp_chain.specs.Order.{function_order}
+use Rattle.hp_chain.proofs.Chained.{readable}
 use Rattle.hp_chain.proofs.StructuresClauses.{flat_clauses_hold, lines_are_true, of_groups}
 use Rattle.hp_chain.proofs.StructuresFilled.{extended}
 use Rattle.hp_chain.proofs.StructuresWords.{functions_keep, given_again, given_count, given_inside}
@@ -55,10 +56,10 @@ all_of_sorts (s ∷ ss) (x ∷ xs) count have = (have 0 s refl, all_of_sorts ss 
 -- ---- the law
 pub structures_give_values : StructuresGiveValues
 structures_give_values p g is s satisfied =
-    let base = is.base in
+    let base = is.read.1 in
     let said = flattened p g is in
     let down = descended p g is in
-    let made = groups_are_sound Group ghosts.grow_of ghosts.own ghosts.applied ghosts.clauses ghosts.plan_of ghosts.IsLent (chain_of p is.flats base) base g down in
+    let made = groups_are_sound Group ghosts.grow_of ghosts.own ghosts.applied ghosts.clauses ghosts.plan_of ghosts.IsLent (chain_of p is.read) base g down in
     let names = g.names in
     let size = s.universe in
     let functions = functions_of s in
@@ -76,13 +77,13 @@ structures_give_values p g is s satisfied =
     let values : AreValues g v env functions = record { agrees = words_agree (words names) v (words_are_distinct names made.sound.made); extends = last.1.extends } in
     let later : IsLater base g = record { begins = made.begins; made = made.sound.made } in
     let here : IsLater g g = record { begins = begins_same g; made = made.sound.made } in
-    let flats = flat_clauses_hold size base g v env functions later values clauses_need_constants_alone clauses_hold_at_once p is.flats (constant s.consts) is.able said agree satisfied.holds in
-    let lines = lines_are_true size base g v env functions later values clauses_need_constants_alone clauses_hold_at_once p is.flats (constant s.consts) is.able said agree satisfied.holds have in
-    let groups = of_groups (λ (c : FlatClause). HoldsAll size env functions (universal_of c)) is.flats flats base.names.signatures (function_order p.decls) in (
+    let flats = flat_clauses_hold size base g v env functions later values clauses_need_constants_alone clauses_hold_at_once p is.read.0.flats (constant s.consts) is.able said agree satisfied.holds in
+    let lines = lines_are_true size base g v env functions later values clauses_need_constants_alone clauses_hold_at_once p is.read.0.flats (constant s.consts) is.able said agree satisfied.holds have in
+    let groups = of_groups base.names is.read.0 (readable p is.read.0 is.read.1 is.able is.limits is.taken is.plain) size env functions flats base.names.signatures (function_order p.decls) in (
       v,
       record {
         sorted = all_of_sorts (sorts names) v last.1.count have;
-        lines = groups_keep_truth Group ghosts.grow_of ghosts.own ghosts.applied ghosts.clauses ghosts.plan_of ghosts.IsLent (chain_of p is.flats base) base g g size v env functions down here values have
+        lines = groups_keep_truth Group ghosts.grow_of ghosts.own ghosts.applied ghosts.clauses ghosts.plan_of ghosts.IsLent (chain_of p is.read) base g g size v env functions down here values have
             well.universe last.1.inside groups lines;
       },
     )

@@ -52,18 +52,18 @@ use Rattle.hp_class.proofs.Through.{words_agree}
 use Rattle.hp_groups.specs.declared.group.Group.{Group}
 use Rattle.hp_groups.specs.contracts.group.GroupLocalClass.TheImpl.{ghosts}
 use Rattle.hp_groups.specs.contracts.group.GroupLocalClass.TheImpl.Laws as group_laws
-use Rattle.hp_groups.specs.Groups.{group_from}
-use Rattle.hp_groups.proofs.Classes.{applied_none, clauses_covered, one_table, own_is}
+use Rattle.hp_groups.specs.Groups.{Reading, group_from}
+use Rattle.hp_groups.proofs.Classes.{applied_none, clauses_held, one_table, own_is}
 use Rattle.hp_chain.specs.Ground.{IsGroundOf, chain_of}
 use Rattle.hp_chain.specs.Order.{function_order}
 use Rattle.hp_chain.specs.Structures.{structure_of, tables_from}
 use Rattle.hp_chain.specs.Laws.{AreTrueLines, ValuesGiveAStructure}
-use Rattle.hp_chain.proofs.Chained.{is_ready}
+use Rattle.hp_chain.proofs.Chained.{is_ready, readable}
 use Rattle.hp_chain.proofs.ValuesClauses.{clauses_hold}
 use Rattle.hp_chain.proofs.ValuesDeclared.{are_levelled, constants_fit, declared_function, few_arguments}
 use Rattle.hp_chain.proofs.ValuesDescended.{descended, flattened, group_there}
 use Rattle.hp_chain.proofs.ValuesFacts.{fact_known, facts_inside, points_extend, sorted_points}
-use Rattle.hp_chain.proofs.ValuesGroups.{applies_alone, law_alone, table_alone}
+use Rattle.hp_chain.proofs.ValuesGroups.{All-unmap, applies_alone, law_alone, table_alone}
 use Rattle.hp_chain.proofs.ValuesLevels.{IsCompleted, IsOfFunction, clauses_hold as own_clauses_hold, points_kept, tables_by}
 use Rattle.hp_chain.proofs.ValuesSorts.{have_sorts, ranks_inside}
 use Rattle.hp_chain.proofs.ValuesTables.{has_level, table_fits, table_word, tables_fit}
@@ -83,20 +83,23 @@ module _ (p : Problem) (g : Ground) (is : IsGroundOf p g) (v : Values) (are_true
   abbrev size : ℕ
   size = universe_size (count names) ss v
 
+  abbrev read : Reading
+  read = is.read.0
+
   abbrev flats : List FlatClause
-  flats = is.flats
+  flats = read.flats
 
   abbrev s : Structure
-  s = structure_of flats names v
+  s = structure_of read names v
 
   abbrev frame : Frame
   frame = frame_at size names w
 
-  flat : IsFlattened p flats is.base
+  flat : IsFlattened p flats is.read.1
   flat = flattened p g is
 
-  been_made : HasBeenMade is.base g
-  been_made = groups_are_sound Group ghosts.grow_of ghosts.own ghosts.applied ghosts.clauses ghosts.plan_of ghosts.IsLent (chain_of p flats is.base) is.base g (descended p g is)
+  been_made : HasBeenMade is.read.1 g
+  been_made = groups_are_sound Group ghosts.grow_of ghosts.own ghosts.applied ghosts.clauses ghosts.plan_of ghosts.IsLent (chain_of p is.read) is.read.1 g (descended p g is)
 
   signatures : names.signatures ≡ signatures_from 1 p.decls
   signatures = been_made.begins.signatures ∙ flat.signatures
@@ -122,24 +125,24 @@ module _ (p : Problem) (g : Ground) (is : IsGroundOf p g) (v : Values) (are_true
       All-by (λ (line : Line). LineIsTrue w line.lits) g.lines (λ line m.
       (line_kept (count names) ss v had line.lits (All-contains (IsFitLine names) g.lines line been_made.sound.lines m)).1 (All-contains (λ (l : Line). LineIsTrue v l.lits) g.lines line are_true.lines m))
 
-  base_lines : AreTrue w is.base.lines
+  base_lines : AreTrue w is.read.1.lines
   base_lines =
-      All-by (λ (line : Line). LineIsTrue w line.lits) is.base.lines (λ line m.
+      All-by (λ (line : Line). LineIsTrue w line.lits) is.read.1.lines (λ line m.
       All-contains (λ (l : Line). LineIsTrue w l.lits) g.lines line true_lines
-      (subst (λ (ls : List Line). Contains ls line) (sym been_made.begins.lines) (Contains-append_left is.base.lines been_made.begins.added line m)))
+      (subst (λ (ls : List Line). Contains ls line) (sym been_made.begins.lines) (Contains-append_left is.read.1.lines been_made.begins.added line m)))
 
   sums : SumsHold names w
   sums = sums_hold_by_lines g w been_made.sound.sums true_lines
 
   -- ---- functions
   abbrev group : ℕ → Signature → Group
-  group func t = group_from func t flats
+  group func t = group_from func t read
 
   abbrev table : ℕ → Signature → Table
-  table func t = (one_table func t flats size names w).0
+  table func t = (one_table func t read size names w).0
 
   only_table : (func : ℕ) (t : Signature) → ghosts.tables_of (group func t) size names w ≡ table func t ∷ []
-  only_table func t = (one_table func t flats size names w).1
+  only_table func t = (one_table func t read size names w).1
 
   abbrev universals : ℕ → Signature → List Universal
   universals func t = map universal_of (ghosts.clauses (group func t))
@@ -151,23 +154,23 @@ module _ (p : Problem) (g : Ground) (is : IsGroundOf p g) (v : Values) (are_true
   levelled = are_levelled p (faultless_problems_are_well_sorted p is.able.sorted).levels (subst (λ (xs : List Signature). AreDistinct (map signature_name xs)) signatures been_made.sound.made.functions)
 
   -- its group is one of the chain
-  among : (func : ℕ) (t : Signature) → slice_get names.signatures func ≡ Some t → Contains (chain_of p flats is.base) (group func t)
+  among : (func : ℕ) (t : Signature) → slice_get names.signatures func ≡ Some t → Contains (chain_of p is.read) (group func t)
   among func t known =
       let as_declared = declared_as func t known in
       let level = has_level p levelled func t as_declared in
-      group_there flats is.base.names.signatures (function_order p.decls) func t (has_turn p.decls func t as_declared level.1 level.2)
+      group_there read is.read.1.names.signatures (function_order p.decls) func t (has_turn p.decls func t as_declared level.1 level.2)
       (ap (λ (xs : List Signature). slice_get xs func) (sym been_made.begins.signatures) ∙ known)
 
   lent : (func : ℕ) (t : Signature) → slice_get names.signatures func ≡ Some t → ghosts.IsLent (group func t) names
   lent func t known =
       let d = descended p g is in
-      let begins : BeginsNames is.base.names names = begins_names is.base g been_made.begins in
-      d.law.stays (group func t) is.base.names names (All-contains (λ (c : Group). ghosts.IsLent c is.base.names) (chain_of p flats is.base) (group func t) d.lent (among func t known)) begins been_made.sound.made
+      let begins : BeginsNames is.read.1.names names = begins_names is.read.1 g been_made.begins in
+      d.law.stays (group func t) is.read.1.names names (All-contains (λ (c : Group). ghosts.IsLent c is.read.1.names) (chain_of p is.read) (group func t) d.lent (among func t known)) begins been_made.sound.made
 
   congruent : (func : ℕ) (t : Signature) → slice_get names.signatures func ≡ Some t → AreCongruentPoints w (points func names.definitions)
   congruent func t known =
-      groups_are_congruent Group ghosts.grow_of ghosts.own ghosts.applied ghosts.clauses ghosts.plan_of ghosts.IsLent (chain_of p flats is.base) is.base g w (descended p g is) have true_lines
-      (group func t) func (among func t known) (subst (λ (funcs : List ℕ). Contains funcs func) (sym (own_is func t flats)) (contains_first func []))
+      groups_are_congruent Group ghosts.grow_of ghosts.own ghosts.applied ghosts.clauses ghosts.plan_of ghosts.IsLent (chain_of p is.read) is.read.1 g w (descended p g is) have true_lines
+      (group func t) func (among func t known) (subst (λ (funcs : List ℕ). Contains funcs func) (sym (own_is func t read)) (contains_first func []))
 
   facts_congruent : AreCongruent frame.facts
   facts_congruent = facts_are_congruent size names w been_made.sound.made congruent
@@ -176,10 +179,10 @@ module _ (p : Problem) (g : Ground) (is : IsGroundOf p g) (v : Values) (are_true
   at_table : (func : ℕ) (t : Signature) → slice_get names.signatures func ≡ Some t → IsTableAt size names [] func (table func t)
   at_table func t known =
       table_alone size names func (ghosts.own (group func t)) (ghosts.applied (group func t)) (ghosts.tables_of (group func t) size names w) (table func t)
-      (own_is func t flats) (applied_none func t flats) (only_table func t)
+      (own_is func t read) (applied_none func t read) (only_table func t)
       (group_laws.fitting-law (group func t) size names w (lent func t known) some (λ f m. sorted_points size names w been_made.sound.made been_made.sound.names some inside f))
 
-  all_tables : (from : ℕ) (ts : List Signature) → tables_from flats size from ts names w ≡ tables_by table from ts
+  all_tables : (from : ℕ) (ts : List Signature) → tables_from read size from ts names w ≡ tables_by table from ts
   all_tables from [] = refl
   all_tables from (t ∷ ts) = λ i. only_table from t i ++ all_tables (suc from) ts i
 
@@ -215,8 +218,8 @@ module _ (p : Problem) (g : Ground) (is : IsGroundOf p g) (v : Values) (are_true
   completed : (func : ℕ) (t : Signature) → slice_get names.signatures func ≡ Some t → IsCompleted (declared_level p) frame t (universals func t) (table func t)
   completed func t known =
       let c = group func t in
-      let turns = groups_are_modelled Group ghosts.grow_of ghosts.own ghosts.applied ghosts.clauses ghosts.plan_of ghosts.IsLent (chain_of p flats is.base) is.base g size w (descended p g is) have facts_congruent true_lines in
-      let turn = All-contains (IsModelledTurn ghosts.own ghosts.applied ghosts.plan_of ghosts.IsLent size names w) (chain_of p flats is.base) c turns (among func t known) in
+      let turns = groups_are_modelled Group ghosts.grow_of ghosts.own ghosts.applied ghosts.clauses ghosts.plan_of ghosts.IsLent (chain_of p is.read) is.read.1 g size w (descended p g is) have facts_congruent true_lines in
+      let turn = All-contains (IsModelledTurn ghosts.own ghosts.applied ghosts.plan_of ghosts.IsLent size names w) (chain_of p is.read) c turns (among func t known) in
       let law = group_laws.completes-law c size tt turn.mid turn.next names w turn.lent turn.made turn.modelled (is_ready c names w) in
       let level = has_level p levelled func t (declared_as func t known) in
       record {
@@ -224,8 +227,8 @@ module _ (p : Problem) (g : Ground) (is : IsGroundOf p g) (v : Values) (are_true
         of_level = level.0;
         low = level.1;
         high = level.2;
-        applies = applies_alone names func t (ghosts.own c) (ghosts.applied c) (ghosts.clauses c) known (own_is func t flats) (applied_none func t flats) ((descended p g is).law.applies c names (lent func t known));
-        law = law_alone names frame func t (ghosts.own c) (ghosts.applied c) (ghosts.clauses c) (ghosts.tables_of c size names w) (table func t) known (own_is func t flats) (applied_none func t flats) (only_table func t) law;
+        applies = applies_alone names func t (ghosts.own c) (ghosts.applied c) (ghosts.clauses c) known (own_is func t read) (applied_none func t read) ((descended p g is).law.applies c names (lent func t known));
+        law = law_alone names frame func t (ghosts.own c) (ghosts.applied c) (ghosts.clauses c) (ghosts.tables_of c size names w) (table func t) known (own_is func t read) (applied_none func t read) (only_table func t) law;
       }
 
   of_function : (k : Fact) → Contains frame.facts k → IsOfFunction names.signatures k
@@ -244,24 +247,22 @@ module _ (p : Problem) (g : Ground) (is : IsGroundOf p g) (v : Values) (are_true
   -- ---- clauses
   flats_hold : All (λ c. HoldsAll size (environment (words names) w) (functions_of s) (universal_of c)) flats
   flats_hold = All-by (λ (c : FlatClause). HoldsAll size (environment (words names) w) (functions_of s) (universal_of c)) flats (λ c m. (
-      let h = clauses_covered is.base.names flats flat.sound.made is.taken c m in
-      let func = h.0 in
-      let t = h.1 in
-      let known = ap (λ (xs : List Signature). slice_get xs func) been_made.begins.signatures ∙ h.2 in
-      All-head (HoldsAll size (environment (words names) w) (functions_of s)) (universal_of c) []
-      (subst (λ (cs : List FlatClause). All (HoldsAll size (environment (words names) w) (functions_of s)) (map universal_of cs)) h.3 (group_clauses func t known))))
+      let held = clauses_held is.read.1.names read (readable p read is.read.1 is.able is.limits is.taken is.plain) c m in
+      let known = ap (λ (xs : List Signature). slice_get xs held.func) been_made.begins.signatures ∙ held.known in
+      held.held size (environment (words names) w) (functions_of s)
+      (All-unmap (HoldsAll size (environment (words names) w) (functions_of s)) universal_of (ghosts.clauses (group held.func held.signature)) (group_clauses held.func held.signature known))))
 
   pub satisfied : Satisfies s p
   satisfied =
       let env : Environment = environment (words names) w in
-      let later : IsLater is.base g = record { begins = been_made.begins; made = been_made.sound.made } in
+      let later : IsLater is.read.1 g = record { begins = been_made.begins; made = been_made.sound.made } in
       let values : AreValues g w env (functions_of s) = record {
         agrees = words_agree (words names) w (words_are_distinct names been_made.sound.made);
         extends = points_extend names w (functions_of s) been_made.sound.made been_made.sound.names sums kept;
       } in
       record {
         well_formed = well_formed;
-        holds = clauses_hold size is.base g w env (functions_of s) later values p flats (constant s.consts) is.able flat have base_lines flats_hold (constants_agree p names w declared);
+        holds = clauses_hold size is.read.1 g w env (functions_of s) later values p flats (constant s.consts) is.able flat have base_lines flats_hold (constants_agree p names w declared);
       }
 
 pub values_give_a_structure : ValuesGiveAStructure

@@ -51,3 +51,8 @@ table_alone size names func own applied tables table one none only h =
     subst (λ (ts : List Table). AllZip (IsTableAt size names []) (func ∷ []) ts) only
     (subst (λ (funcs : List ℕ). AllZip (IsTableAt size names []) funcs tables) one (subst (λ (funcs : List ℕ). AllZip (IsTableAt size names funcs) own tables) none h)) in
     at.0
+
+-- what holds of all images holds of each image
+pub All-unmap : {X Y : Type 0} (P : Y → Type 0) (f : X → Y) (xs : List X) → All P (map f xs) → All (λ x. P (f x)) xs
+All-unmap P f [] all = All-nil (λ x. P (f x))
+All-unmap P f (x ∷ xs) all = All-cons (λ y. P (f y)) x xs (All-head P (f x) (map f xs) all) (All-unmap P f xs (All-tail P (f x) (map f xs) all))

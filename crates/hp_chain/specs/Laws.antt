@@ -34,4 +34,4 @@ StructuresGiveValues = (p : Problem) (g : Ground) → IsGroundOf p g → (struct
 
 -- such values give a structure that satisfies the problem
 abbrev pub ValuesGiveAStructure : Type 0
-ValuesGiveAStructure = (p : Problem) (g : Ground) (is : IsGroundOf p g) (v : Values) → AreTrueLines g v → Satisfies (structure_of is.flats g.names v) p
+ValuesGiveAStructure = (p : Problem) (g : Ground) (is : IsGroundOf p g) (v : Values) → AreTrueLines g v → Satisfies (structure_of is.read.0 g.names v) p

@@ -2,18 +2,21 @@
 ghost use Rattle.std.specs.Prelude.{◌≡◌, ◌<◌, ◌^◌, IfOk, None, Ok, length};
 ghost use Rattle.hp_norm.specs.Flat.{IsFlattenable, flat_of};
 ghost use Rattle.hp_sorts.specs.Limits.{passed};
-ghost use Rattle.hp_groups.specs.Rules.{first_refused};
+ghost use Rattle.hp_rules.specs.Rules.{rules};
 ghost use Rattle.hp_chain.specs.Answers.{ClassifiedAs, DescendedAs, IsChainOf};
-ghost use Rattle.hp_chain.specs.Ground.{chain_of};
+ghost use Rattle.hp_chain.specs.Ground.{HasPlainNames, IsReadAs, chain_of};
+ghost use Rattle.hp_chain.specs.Order.{levels_of};
 
 use crate::answer::ChainErr;
 use crate::order::{function_order, levels};
 use hp_class::descend_groups;
 use hp_defs::Ground;
-use hp_groups::{Group, first_refused, groups};
+use hp_groups::{Group, groups};
 use hp_lit::GroundErr;
 use hp_norm::{Flat, name_clauses};
 use hp_num::List;
+use hp_pairs::separate;
+use hp_rules::{Ruled, rules};
 use hp_tree::Problem;
 use std::alloc::{AllocError, Global};
 
@@ -35,45 +38,91 @@ pub struct Classified {
 /// The groups of a problem, over the ground set of its clauses without variables.
 ///
 /// The limits of the clauses come first: 4,000 names, 50,000 lines, and coefficients of 2^127 - 1, with the item, counted
-/// from 1 over the declarations and then the clauses. Then comes the first clause that can't be taken. Each comes exactly where
-/// it is the first cause.
+/// from 1 over the declarations and then the clauses. Then comes the first clause that breaks a rule of the profile by itself,
+/// each exactly where it is the first cause. Then the pairs of cases are tested: `Outside` comes with the first that some
+/// values meet, and `Strain` where a number passes 2^127 - 1 over a pair behind pairs that none meet.
 ///
 /// It asks for a problem whose names and sorts are right, within the limits of a text, with less than 2^28 declarations, whose
-/// names are never `_` with digits, and light: the magnitudes of the numerators of each atom add up to less than 2 * 10^24.
+/// names are never `_` with digits nor `$1` to `$4`, and light: the magnitudes of the numerators of each atom add up to less
+/// than 2 * 10^24.
 pub fn classify(alloc: Global, p: &Problem) -> Result<Classified, ChainErr>
     requires able { IsFlattenable p.now }
     requires limits { passed p.now ≡ None }
+    requires plain { HasPlainNames p.now }
     requires items { length p.now.decls < 2 ^ 28 }
     ensures { ClassifiedAs p.now result }
 {
     let flat = name_clauses(alloc, p)?;
-    match first_refused(alloc, &flat.ground.names, flat.clauses.as_slice())? {
-        Some(refused) => Err(ChainErr::Refused(refused)),
-        None => {
-            let groups = groups_in_turn(alloc, p, &flat)?;
+    by_rules(alloc, p, flat)
+}
+
+/// The same of a problem with these flat clauses.
+fn by_rules(alloc: Global, p: &Problem, flat: Flat) -> Result<Classified, ChainErr>
+    requires able { IsFlattenable p.now }
+    requires limits { passed p.now ≡ None }
+    requires plain { HasPlainNames p.now }
+    requires items { length p.now.decls < 2 ^ 28 }
+    requires named { flat_of p.now ≡ Ok (flat.clauses, flat.ground) }
+    ensures { ClassifiedAs p.now result }
+{
+    match rules(alloc, &flat.ground.names, flat.clauses.as_slice()) {
+        Ok(ruled) => by_pairs(alloc, p, flat, &ruled),
+        Err(error) => Err(ChainErr::from(error)),
+    }
+}
+
+/// The same where the clauses keep the rules one by one.
+fn by_pairs(alloc: Global, p: &Problem, flat: Flat, ruled: &Ruled) -> Result<Classified, ChainErr>
+    requires able { IsFlattenable p.now }
+    requires limits { passed p.now ≡ None }
+    requires plain { HasPlainNames p.now }
+    requires items { length p.now.decls < 2 ^ 28 }
+    requires named { flat_of p.now ≡ Ok (flat.clauses, flat.ground) }
+    requires ruled { rules flat.ground.names flat.clauses ≡ Ok ruled.now }
+    ensures { ClassifiedAs p.now result }
+{
+    let levels = levels(alloc, p.decls.as_slice())?;
+    let functions = levels.len() as u32;
+    match separate(
+        alloc,
+        &flat.ground.names,
+        functions,
+        ruled.branches.as_slice(),
+    ) {
+        Ok(()) => {
+            let groups = groups_in_turn(alloc, p, &flat, ruled, levels.as_slice())?;
             Ok(Classified {
                 chain: Chain { groups },
                 ground: flat.ground,
             })
         }
+        Err(error) => Err(ChainErr::from(error)),
     }
 }
 
-/// The groups of the functions of a problem in the order of their turns, where each flat clause can be taken.
-fn groups_in_turn(alloc: Global, p: &Problem, flat: &Flat) -> Result<List<Group>, AllocError>
+/// The groups of the functions of a problem, which have these levels, in the order of their turns, where its clauses can be
+/// taken.
+fn groups_in_turn(
+    alloc: Global,
+    p: &Problem,
+    flat: &Flat,
+    ruled: &Ruled,
+    levels: &[u64],
+) -> Result<List<Group>, AllocError>
     requires able { IsFlattenable p.now }
     requires limits { passed p.now ≡ None }
+    requires plain { HasPlainNames p.now }
     requires items { length p.now.decls < 2 ^ 28 }
-    requires named { flat_of p.now ≡ Ok (flat.now.clauses, flat.now.ground) }
-    requires taken { first_refused flat.now.ground.names flat.now.clauses ≡ None }
-    ensures { IfOk result (λ made. made ≡ chain_of p.now flat.now.clauses flat.now.ground) }
+    requires levels { levels.now ≡ levels_of p.now.decls }
+    requires taken { IsReadAs p.now (record { flats = flat.now.clauses; ruled = ruled.now }, flat.now.ground) }
+    ensures { IfOk result (λ made. made ≡ chain_of p.now (record { flats = flat.now.clauses; ruled = ruled.now }, flat.now.ground)) }
 {
-    let levels = levels(alloc, p.decls.as_slice())?;
-    let order = function_order(alloc, levels.as_slice())?;
+    let order = function_order(alloc, levels)?;
     groups(
         alloc,
         &flat.ground.names,
         flat.clauses.as_slice(),
+        ruled,
         order.as_slice(),
     )
 }
@@ -93,10 +142,13 @@ pub fn descend(
 ) -> Result<Ground, GroundErr>
     requires able { IsFlattenable p.now }
     requires limits { passed p.now ≡ None }
+    requires plain { HasPlainNames p.now }
     requires chain { IsChainOf p.now chain.now ground }
     ensures { DescendedAs p.now chain.now result }
 {
     let mut g = ground;
-    descend_groups(alloc, chain.groups.as_slice(), &mut g)?;
-    Ok(g)
+    match descend_groups(alloc, chain.groups.as_slice(), &mut g) {
+        Ok(()) => Ok(g),
+        Err(error) => Err(error),
+    }
 }

@@ -39,7 +39,7 @@ pub fn ascend(
     requires sorts { sorts.now ≡ Rattle.hp_defs.specs.Names.sorts g.now.names }
     requires sorted { AreOfSorts sorts.now values.now.values }
     requires small { AreSmallIdx sorts.now values.now.values }
-    ensures { IfOk result (λ made. (is : IsGroundOf p.now g.now) → made ≡ structure_of is.flats g.now.names values.now.values) }
+    ensures { IfOk result (λ made. (is : IsGroundOf p.now g.now) → made ≡ structure_of is.read.0 g.now.names values.now.values) }
 {
     let names = &g.names;
     let by_rank = ranked(alloc, names.count() as usize, sorts, values)?;
@@ -65,7 +65,7 @@ fn tables(
     requires chain { HasChain p.now chain.now g.now }
     requires sorted { HaveSorts (sorts g.now.names) values.now }
     requires small { AreSmallIdx (sorts g.now.names) values.now }
-    ensures { IfOk result (λ made. (is : IsGroundOf p.now g.now) → made ≡ tables_from is.flats size 0 g.now.names.signatures g.now.names values.now) }
+    ensures { IfOk result (λ made. (is : IsGroundOf p.now g.now) → made ≡ tables_from is.read.0 size 0 g.now.names.signatures g.now.names values.now) }
 {
     let groups = chain.groups.as_slice();
     let made = match ascend_groups(alloc, groups, size, &g.names, values) {

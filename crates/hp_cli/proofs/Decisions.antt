@@ -8,7 +8,7 @@ use Rattle.hp_solve.specs.Solved.{IsInScope}
 use Rattle.hp_sorts.specs.declared.fault.SortErr.{SortErr}
 use Rattle.hp_sorts.specs.declared.fault.SortErr.TheVariants.{Twice, Level, Unknown, Arity, Mismatch, Memory}
 use Rattle.hp_sorts.specs.Faults.{IsCause}
-use Rattle.hp_cli.specs.Verdicts.{InScope, IsCounted, IsRead}
+use Rattle.hp_cli.specs.Verdicts.{InScope, IsBuilt, IsCounted, IsRead}
 
 -- ---- what a problem that was read keeps to
 pub few_items : (bytes : List ℕ) (p : Problem) → IsRead bytes p → (length p.decls + length p.clauses) < 2 ^ 28
@@ -35,5 +35,5 @@ is_fault fault (Arity item) h n = h
 is_fault fault (Mismatch item) h n = h
 is_fault fault Memory h n = absurd (n refl)
 
-pub in_scope : (bytes : List ℕ) (p : Problem) → IsCounted bytes p → IsInScope p → InScope bytes p
-in_scope bytes p c s = record { counted = c; within = s.within }
+pub in_scope : (bytes : List ℕ) (p : Problem) → IsBuilt bytes p → IsInScope p → InScope bytes p
+in_scope bytes p b s = record { built = b; within = s.within; is = s.is }

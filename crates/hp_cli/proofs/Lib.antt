@@ -4,5 +4,6 @@ pub mod Tells
 pub mod WordLists
 pub mod Decisions
 pub mod OneLine
+pub mod Readings
 pub mod Settled
 pub mod Determined

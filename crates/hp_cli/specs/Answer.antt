@@ -8,7 +8,7 @@ use Rattle.hp_cli.specs.declared.words.Task.{Task}
 use Rattle.hp_cli.specs.declared.words.Task.TheVariants.{Solve, Print}
 use Rattle.hp_cli.specs.Words.{Asks, IsUsage}
 use Rattle.hp_cli.specs.Refusals.{usage_text}
-use Rattle.hp_cli.specs.Verdicts.{Limited, Missorted, Misspelled, OtherForm, OutOfNodes, Printed, Satisfiable, Strained, TooLong, TooMany, Unruly, Unsatisfiable}
+use Rattle.hp_cli.specs.Verdicts.{Limited, Missorted, Misspelled, OtherForm, OutOfNodes, Printed, Satisfiable, Strained, StrainedPair, TooLong, TooMany, Unruly, Unsatisfiable}
 
 -- the exit status
 abbrev pub code : Status → ℕ
@@ -35,13 +35,14 @@ pub data Does (bytes text : List ℕ) : Task → Status → Type 0 where
   misspelled : {task : Task} → Misspelled bytes text → Does bytes text task Spelling
   -- printing asks for no more
   printed : Printed bytes text → Does bytes text Print Done
-  -- solving asks for names and sorts, for the limits of a text, and for a ground set: for the limits of names and of numbers of the
-  -- clauses, for the rules of the profile and forms that are decided, and for the limits of instances
+  -- solving asks for names and sorts, for the limits of a text, for forms that are decided, and for a ground set: for the limits of
+  -- names and of numbers of the clauses, for the rules of the profile, and for the limits of instances
   missorted : {most : ℕ} → Missorted bytes text → Does bytes text (Solve most) Sort
   too_many : {most : ℕ} → TooMany bytes text → Does bytes text (Solve most) Limit
+  other_form : {most : ℕ} → OtherForm bytes text → Does bytes text (Solve most) NotBuilt
   limited : {most : ℕ} → Limited bytes text → Does bytes text (Solve most) Limit
   unruly : {most : ℕ} → Unruly bytes text → Does bytes text (Solve most) Outside
-  other_form : {most : ℕ} → OtherForm bytes text → Does bytes text (Solve most) NotBuilt
+  strained_pair : {most : ℕ} → StrainedPair bytes text → Does bytes text (Solve most) Overflow
   strained : {most : ℕ} → Strained bytes text → Does bytes text (Solve most) Overflow
   satisfiable : {most : ℕ} → Satisfiable bytes text → Does bytes text (Solve most) Sat
   unsatisfiable : {most : ℕ} → Unsatisfiable bytes text → Does bytes text (Solve most) Unsat

@@ -6,7 +6,6 @@ use Rattle.hp_tree.specs.declared.limit.Which.{Which}
 use Rattle.hp_tree.specs.declared.limit.Which.TheVariants.{Input, Bytes, Clauses, Variables, Arguments, Names, Lines, Coefficient}
 use Rattle.hp_grammar.specs.declared.fault.ReadErr.{ReadErr}
 use Rattle.hp_grammar.specs.declared.fault.ReadErr.TheVariants as reading
-use Rattle.hp_groups.specs.declared.refused.Outside.{Outside}
 use Rattle.hp_sorts.specs.declared.fault.SortErr.{SortErr}
 use Rattle.hp_sorts.specs.declared.fault.SortErr.TheVariants as sorting
 
@@ -19,10 +18,6 @@ usage_text = line (codes "usage: hpilot solve [--nodes N], check, classify, inst
 
 abbrev pub not_built_text : List ℕ
 not_built_text = line (codes "not built")
-
--- the clause that breaks a rule, counted from 1, and the rule
-abbrev pub outside_text : Outside → List ℕ
-outside_text o = line (codes "outside clause " ++ decimal o.clause ++ codes " rule " ++ decimal o.rule)
 
 -- the place of what is wrongly spelled, in bytes from 0; want of memory has no line
 abbrev pub spelling_text : ReadErr → List ℕ

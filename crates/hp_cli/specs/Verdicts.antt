@@ -1,5 +1,5 @@
 -- What the program says of the bytes of an input.
-use Rattle.std.specs.Prelude.{◌≡◌, ◌≢◌, ℕ, ◌<◌, ◌≤◌, List, ◌++◌, ◌+◌, codes, length, Some, None}
+use Rattle.std.specs.Prelude.{◌≡◌, ◌≢◌, ℕ, ◌<◌, ◌≤◌, List, ◌++◌, ◌+◌, codes, length, Some, None, true, false}
 use Rattle.std.specs.Fmt.{decimal}
 use Rattle.hp_tree.specs.declared.limit.Limit.{Limit}
 use Rattle.hp_tree.specs.declared.limit.Which.TheVariants.{Bytes}
@@ -24,13 +24,14 @@ use Rattle.hp_cert.specs.Refutes.{Refutes}
 use Rattle.hp_cert.specs.Spelled.{IsSpelled}
 use Rattle.hp_descent.specs.declared.answer.Strain.{Strain}
 use Rattle.hp_search.specs.Search.{IsHonestStrain}
-use Rattle.hp_groups.specs.declared.refused.Outside.{Outside}
-use Rattle.hp_groups.specs.declared.refused.Refused.TheVariants as refused
-use Rattle.hp_chain.specs.declared.answer.ChainErr.TheVariants as refusal
-use Rattle.hp_chain.specs.Ground.{IsGroundOf, refusal_of}
-use Rattle.hp_cert.specs.Overflow.{overflow_text}
+use Rattle.hp_pairs.specs.declared.answer.Outside.{Outside}
+use Rattle.hp_pairs.specs.declared.answer.PairStrain.{PairStrain}
+use Rattle.hp_pairs.specs.Text.{outside_text}
+use Rattle.hp_waiting.specs.Waiting.{is_waiting}
+use Rattle.hp_chain.specs.Ground.{IsGroundOf, IsLimited, IsOutside, IsStrained}
+use Rattle.hp_cert.specs.Overflow.{overflow_text, pair_overflow_text}
 use Rattle.hp_tree.specs.Limits.{most_bytes}
-use Rattle.hp_cli.specs.Refusals.{line, limit_text, not_built_text, outside_text, sort_text, spelling_text}
+use Rattle.hp_cli.specs.Refusals.{line, limit_text, not_built_text, sort_text, spelling_text}
 
 -- ---- how far an input comes
 -- at most 1,048,576 bytes, and they spell the problem
@@ -48,11 +49,17 @@ pub record IsCounted (bytes : List ℕ) (p : Problem) : Type 0 where
   pub sorted : IsSorted bytes p
   pub counted : passed p ≡ None
 
--- It has a ground set: each clause with variables can be taken, and the ground set passes no limit, with at most 4,000 constants
+-- its clauses with variables are of forms that are decided
+pub record IsBuilt (bytes : List ℕ) (p : Problem) : Type 0 where
+  pub counted : IsCounted bytes p
+  pub built : is_waiting p ≡ false
+
+-- It has a ground set: its clauses keep the rules of the profile, and the ground set passes no limit, with at most 4,000 constants
 -- and definitions, 50,000 lines, and no number of a normal form above 2^127 - 1. These are the texts that get a verdict, or a strain.
 pub record InScope (bytes : List ℕ) (p : Problem) : Type 0 where
-  pub counted : IsCounted bytes p
-  pub within : refusal_of p ≡ None
+  pub built : IsBuilt bytes p
+  pub within : Ground
+  pub is : IsGroundOf p within
 
 -- ---- refusals
 pub record Misspelled (bytes text : List ℕ) : Type 0 where
@@ -82,28 +89,37 @@ pub record TooMany (bytes text : List ℕ) : Type 0 where
   pub cause : passed problem ≡ Some passed_limit
   pub written : text ≡ limit_text passed_limit
 
--- more names or lines than a ground set may have, or a number of a normal form that is too wide, whichever is made first
-pub record Limited (bytes text : List ℕ) : Type 0 where
-  pub problem : Problem
-  pub counted : IsCounted bytes problem
-  pub passed_limit : Limit
-  pub cause : refusal_of problem ≡ Some (refusal.Limit passed_limit)
-  pub written : text ≡ limit_text passed_limit
-
--- a clause breaks a rule of the profile, and no clause before it breaks one or is of a form that isn't decided so far
-pub record Unruly (bytes text : List ℕ) : Type 0 where
-  pub problem : Problem
-  pub counted : IsCounted bytes problem
-  pub broken : Outside
-  pub cause : refusal_of problem ≡ Some (refusal.Refused (refused.Outside broken))
-  pub written : text ≡ outside_text broken
-
--- a clause is of a form that isn't decided so far, and no clause before it breaks a rule
+-- a clause is of a form that isn't decided so far
 pub record OtherForm (bytes text : List ℕ) : Type 0 where
   pub problem : Problem
   pub counted : IsCounted bytes problem
-  pub cause : refusal_of problem ≡ Some (refusal.Refused refused.NotBuilt)
+  pub cause : is_waiting problem ≡ true
   pub written : text ≡ not_built_text
+
+-- more names or lines than a ground set may have, or a number of a normal form that is too wide, whichever is made first
+pub record Limited (bytes text : List ℕ) : Type 0 where
+  pub problem : Problem
+  pub built : IsBuilt bytes problem
+  pub passed_limit : Limit
+  pub cause : IsLimited problem passed_limit
+  pub written : text ≡ limit_text passed_limit
+
+-- the first clause that breaks a rule of the profile, or, where none breaks one by itself, the first two cases that break one with
+-- each other, with a point that shows it
+pub record Unruly (bytes text : List ℕ) : Type 0 where
+  pub problem : Problem
+  pub built : IsBuilt bytes problem
+  pub broken : Outside
+  pub cause : IsOutside problem broken
+  pub written : text ≡ outside_text broken
+
+-- a number passes 2^127 - 1 over the rows of two cases, and no cases before them break a rule
+pub record StrainedPair (bytes text : List ℕ) : Type 0 where
+  pub problem : Problem
+  pub built : IsBuilt bytes problem
+  pub strain : PairStrain
+  pub cause : IsStrained problem strain
+  pub written : text ≡ pair_overflow_text strain.rule strain.clause strain.other strain.row
 
 -- ---- answers
 -- the text is the printed text of the problem, and spells it too

@@ -8,23 +8,24 @@ ghost use Rattle.hp_grammar.specs.Spells.{IsFault};
 ghost use Rattle.hp_cli.specs.Answer.{Does};
 ghost use Rattle.hp_cli.specs.Refusals.{line};
 ghost use Rattle.hp_tree.specs.Limits.{most_bytes};
-ghost use Rattle.hp_cli.specs.Verdicts.{IsCounted, IsRead};
+ghost use Rattle.hp_cli.specs.Verdicts.{IsBuilt, IsCounted, IsRead};
 ghost use Rattle.hp_cli.specs.Words.{IsTask};
 
 use crate::answer::Status;
 use crate::refusals;
 use crate::words::Task;
-use hp_cert::{Refutation, body, overflow_text, write};
+use hp_cert::{Refutation, body, overflow_text, pair_overflow_text, write};
 use hp_grammar::ReadErr;
-use hp_groups::Refused;
 use hp_model::{Structure, write_structure};
 use hp_num::Text;
+use hp_pairs::outside_text;
 use hp_read::read;
 use hp_roundtrip::reprint;
 use hp_solve::{Solved, solve};
 use hp_sorts::{SortErr, check, counts};
 use hp_text::put_whole;
 use hp_tree::{Limit, MOST_BYTES, Problem, Which};
+use hp_waiting::is_waiting;
 use std::alloc::{AllocError, Global};
 
 /// A whole text and its status.
@@ -159,15 +160,31 @@ fn settle(alloc: Global, bytes: &[u8], problem: &Problem, most: u64) -> Result<A
     requires most { 1 ≤ most }
     ensures { IfOk result (λ answer. Does bytes.now answer.text (Task.Solve most) answer.status) }
 {
-    match solve(alloc, problem, most) {
-        Solved::Memory => Err(AllocError),
-        Solved::Refused(Refused::Outside(outside)) => Ok(Answer {
-            text: refusals::outside(alloc, outside)?,
-            status: Status::Outside,
-        }),
-        Solved::Refused(Refused::NotBuilt) => Ok(Answer {
+    if is_waiting(alloc, problem)? {
+        Ok(Answer {
             text: refusals::not_built(alloc)?,
             status: Status::NotBuilt,
+        })
+    } else {
+        decided(alloc, bytes, problem, most)
+    }
+}
+
+/// The answer for such a problem whose clauses are of forms that are decided.
+fn decided(alloc: Global, bytes: &[u8], problem: &Problem, most: u64) -> Result<Answer, AllocError>
+    requires built { IsBuilt bytes.now problem.now }
+    requires most { 1 ≤ most }
+    ensures { IfOk result (λ answer. Does bytes.now answer.text (Task.Solve most) answer.status) }
+{
+    match solve(alloc, problem, most) {
+        Solved::Memory => Err(AllocError),
+        Solved::Outside(outside) => Ok(Answer {
+            text: outside_text(alloc, &outside)?,
+            status: Status::Outside,
+        }),
+        Solved::StrainedPair(strain) => Ok(Answer {
+            text: pair_overflow_text(alloc, strain.rule, strain.clause, strain.other, &strain.row)?,
+            status: Status::Overflow,
         }),
         Solved::Limit(limit) => Ok(Answer {
             text: refusals::limit(alloc, limit)?,

@@ -2,10 +2,9 @@
 
 ghost use Rattle.std.specs.Prelude.{◌≡◌, ◌++◌, IfOk};
 ghost use Rattle.std.specs.Fmt.{decimal};
-ghost use Rattle.hp_cli.specs.Refusals.{limit_text, not_built_text, outside_text, sort_text, spelling_text};
+ghost use Rattle.hp_cli.specs.Refusals.{limit_text, not_built_text, sort_text, spelling_text};
 
 use hp_grammar::ReadErr;
-use hp_groups::Outside;
 use hp_num::Text;
 use hp_sorts::SortErr;
 use hp_text::put_whole;
@@ -68,21 +67,6 @@ pub fn limit(alloc: Global, limit: Limit) -> Result<Text, AllocError>
             numbered(alloc, b"limit coefficient item ", item, b"\n")
         }
     }
-}
-
-/// The line of a clause that breaks a rule of the profile.
-pub fn outside(alloc: Global, outside: Outside) -> Result<Text, AllocError>
-    ensures { IfOk result (λ text. text ≡ outside_text outside) }
-{
-    let mut out = numbered(
-        alloc,
-        b"outside clause ",
-        u64::from(outside.clause),
-        b" rule ",
-    )?;
-    put_whole(&mut out, i128::from(outside.rule))?;
-    out.extend_from_slice(b"\n")?;
-    Ok(out)
 }
 
 /// The line of a form that isn't decided so far.

@@ -134,17 +134,19 @@ fn outcome<S: Source, K: Sink>(
 /// - 3: a read failed. Nothing is written.
 /// - 5: the input spells no problem. The line says `syntax`, `long-numeral` or `deep` and the offset of the fault.
 /// - 6: an item breaks a rule on names and sorts. The line names the first such item and the first rule that it breaks.
-/// - 7: a clause breaks a rule of the profile, and no clause with variables before it does, or is of a form that isn't decided
-///   so far. The line names the clause, counted from 1 over the clauses, and the rule: 3, where the function of a clause of
-///   monotone shape isn't of num to num; 4, where a clause of monotone shape before has the same function.
+/// - 7: a clause breaks a rule of the profile. The line names the clause, counted from 1 over the clauses, and the rule: the
+///   first clause that breaks one of rules 1 to 7 by itself, and the first of these rules; or, where none does, the later one of the first
+///   two cases of a function whose guards some values meet (8), or of the clauses that give a case bounds that some values put
+///   out of order (9), with the number of the other clause and a point at which it is so.
 /// - 8: a limit is passed: 1,048,576 bytes, of which one more is then read and the rest left; 2,000 clauses; 6 variables of a
 ///   clause; 4 arguments of a function; 4,000 names; 50,000 lines; 2^127 - 1 for a number of the normal form of an atom over
 ///   fractions. The line names the limit, and for the last one the first item with such a number. Items are counted from 1: the declared
 ///   constants and functions, and then the clauses.
-/// - 13: a clause with variables is of a form that isn't decided so far, which is any but monotone shape, and no clause before
-///   it breaks a rule.
+/// - 13: a clause is of a form that isn't decided so far: it has a variable of sort idx or ptr, an application with a variable
+///   in it has one of these sorts in its signature, or two such applications of the text have different levels.
 /// - 9: a number passes 2^127 - 1 on the way to a verdict. The line shows an honest path of the search, and which operation
-///   on which numbers passes over its literals.
+///   on which numbers passes over its literals; or two clauses whose cases are tested with each other, and which operation
+///   passes over their rows, where no cases before them break a rule.
 /// - 10: the text is `satisfiable` and a structure that satisfies the problem.
 /// - 20: no structure satisfies the problem, and the text is a refutation.
 /// - 11: the search came to its limit of splits and leaves, and the text is its honest tree.
@@ -152,9 +154,10 @@ fn outcome<S: Source, K: Sink>(
 /// - 12: memory was wanting. Nothing is written, or a part from the front where the sink wanted it.
 ///
 /// Of several refusals the first comes in this order: usage; a read fault, and the limit of bytes; spelling; names and
-/// sorts; the limits of clauses, variables and arguments; those of names, lines and normal forms, as far as the clauses pass
-/// them; the first clause that can't be taken, with status 7 or 13; the same limits of instances. Status 9 or 11 comes last,
-/// whichever is first. Writing begins when the whole answer is there.
+/// sorts; the limits of clauses, variables and arguments; forms that aren't decided so far; the limits of names, lines and normal
+/// forms, as far as the clauses pass them; the first clause that breaks a rule by itself; the first cases that break one with each
+/// other, with status 7 or 9; the same limits of instances. Status 9 of a path or 11 comes last, whichever is first. Writing begins
+/// when the whole answer is there.
 pub fn run<S: Source, K: Sink>(alloc: Global, words: &[String], source: &mut S, sink: &mut K) -> u8
     // No other status is answered.
     ensures statuses { (s : Status) × (result ≡ code s) }

@@ -1,64 +1,86 @@
--- Groups one by one: the first clause with a form over a function gives its group.
-use Rattle.std.proofs.Common.{◌≡◌, ◌∙◌, ◌<◌, ◌≤◌, ℕ, ◌+◌, suc, List, [], ◌∷◌, ◌++◌, length, drop, get_or, Option, Some, None, refl, sym, ap, append-nil, append_assoc, add-one, arith, drop-cons}
+-- Groups one by one: the first clause with a form over a function gives its group, and its cases where there is none.
+use Rattle.std.proofs.Common.{◌≡◌, ◌∙◌, ◌<◌, ◌≤◌, ℕ, ◌+◌, suc, List, [], ◌∷◌, ◌++◌, map, length, drop, get_or, Option, Some, None, refl, sym, ap, subst, append-nil, append_assoc, add-one, arith, drop-cons}
 use Rattle.std.specs.Prelude.{slice_get}
+use Rattle.std.specs.List.{All}
 use Rattle.std.proofs.lemmas.List.{drop_all}
 use Rattle.std.proofs.lemmas.Option.{slice_get-get_or}
 use Rattle.hp_tree.specs.declared.problem.Sort.TheVariants.{Num}
 use Rattle.hp_defs.specs.declared.names.Signature.{Signature}
-use Rattle.hp_defs.specs.Made.{IsMade}
 use Rattle.hp_defs.specs.Names.{NameList}
 use Rattle.hp_norm.specs.declared.flat.FlatClause.{FlatClause}
 use Rattle.hp_shapes.specs.declared.shape.Form.{Form}
 use Rattle.hp_shapes.specs.Shapes.{form_of}
+use Rattle.hp_pairs.specs.declared.branch.Branch.{Branch}
+use Rattle.hp_flatten.proofs.IsFlat.{flattened_is_flat}
+use Rattle.hp_flatten.proofs.One.{flattened_has_one}
+use Rattle.hp_cases.specs.declared.case.Case.{Case}
+use Rattle.hp_cases.specs.Cases.{IsByCases}
+use Rattle.hp_pairs.specs.Answers.{IsUnmet}
+use Rattle.hp_pairs.specs.Branches.{branches_of, pairs_from}
 use Rattle.hp_points.specs.Made.{free_at, monotone_at}
+use Rattle.hp_by_cases.specs.Made.{cases_at}
+use Rattle.hp_rules.specs.declared.ruled.Ruled.{Ruled}
+use Rattle.hp_ruled.specs.Laws.{AreRuled, case_of, cases_of, clauses_of}
 use Rattle.hp_groups.specs.declared.group.Group.{Group}
-use Rattle.hp_groups.specs.declared.group.Group.TheVariants.{Free, Monotone}
-use Rattle.hp_groups.specs.Groups.{group_at, group_from, group_with, groups_of}
-use Rattle.hp_groups.specs.Rules.{first_refused, owner}
-use Rattle.hp_groups.proofs.Owners.{form_owner}
-use Rattle.hp_groups.proofs.Taken.{form_nums}
+use Rattle.hp_groups.specs.declared.group.Group.TheVariants.{Cases, Free, Monotone}
+use Rattle.hp_groups.specs.Groups.{Reading, by_branches, group_among, group_at, group_from, group_with, groups_of}
+use Rattle.hp_ruled.proofs.ByCases.{functions_by_cases}
+use Rattle.hp_ruled.proofs.Shapes.{form_nums}
 
 abbrev pub form_over : FlatClause → Signature → Option Form
 form_over c s = form_of s.name c.vars c.guard c.head
 
--- ---- forms over other functions
-pub other_form : (names : NameList) (c : FlatClause) (func : ℕ) → IsMade names → (owner names c ≡ Some func → ⊥) → (s : Signature) → slice_get names.signatures func ≡ Some s → None ≡ form_over c s
-other_form names c func made other s known = by (form_over c s) refl
-  where
-    by : (o : Option Form) → form_over c s ≡ o → None ≡ form_over c s
-    by None e = sym e
-    by (Some form) e = absurd (other (form_owner names c func s form made known e))
-
 -- ---- the clauses of a function
 -- those from a place on decide its group
-pub record IsGroupFrom (names : NameList) (clauses : List FlatClause) (func i : ℕ) : Type 0 where
-  pub rest : (s : Signature) → slice_get names.signatures func ≡ Some s → group_from func s clauses ≡ group_from func s (drop i clauses)
+pub record IsGroupFrom (names : NameList) (ruled : Ruled) (clauses : List FlatClause) (func i : ℕ) : Type 0 where
+  pub rest : (s : Signature) → slice_get names.signatures func ≡ Some s → group_among func s ruled clauses ≡ group_among func s ruled (drop i clauses)
 
-pub from_start : (names : NameList) (clauses : List FlatClause) (func : ℕ) → IsGroupFrom names clauses func 0
-from_start names clauses func = record { rest = λ s known. refl }
+pub from_start : (names : NameList) (ruled : Ruled) (clauses : List FlatClause) (func : ℕ) → IsGroupFrom names ruled clauses func 0
+from_start names ruled clauses func = record { rest = λ s known. refl }
 
-from_at : (names : NameList) (clauses : List FlatClause) (func i : ℕ) (c : FlatClause) (o : Option Form) (s : Signature) → i < length clauses → c ≡ get_or clauses i c → slice_get names.signatures func ≡ Some s
-    → o ≡ form_over c s → IsGroupFrom names clauses func i → group_from func s clauses ≡ group_with func s c o (group_from func s (drop (suc i) clauses))
-from_at names clauses func i c o s l e known is g =
-    g.rest s known ∙ ap (group_from func s) (drop-cons clauses i c l ∙ ap (λ (d : FlatClause). d ∷ drop (suc i) clauses) (sym e))
-    ∙ ap (λ (p : Option Form). group_with func s c p (group_from func s (drop (suc i) clauses))) (sym is)
+from_at : (names : NameList) (ruled : Ruled) (clauses : List FlatClause) (func i : ℕ) (c : FlatClause) (o : Option Form) (s : Signature) → i < length clauses → c ≡ get_or clauses i c → slice_get names.signatures func ≡ Some s
+    → o ≡ form_over c s → IsGroupFrom names ruled clauses func i → group_among func s ruled clauses ≡ group_with func s c o (group_among func s ruled (drop (suc i) clauses))
+from_at names ruled clauses func i c o s l e known is g =
+    g.rest s known ∙ ap (group_among func s ruled) (drop-cons clauses i c l ∙ ap (λ (d : FlatClause). d ∷ drop (suc i) clauses) (sym e))
+    ∙ ap (λ (p : Option Form). group_with func s c p (group_among func s ruled (drop (suc i) clauses))) (sym is)
 
-pub from_more : (names : NameList) (clauses : List FlatClause) (func i : ℕ) (c : FlatClause) (o : Option Form) → i < length clauses → c ≡ get_or clauses i c → o ≡ None
-    → ((s : Signature) → slice_get names.signatures func ≡ Some s → o ≡ form_over c s) → IsGroupFrom names clauses func i → IsGroupFrom names clauses func (i + 1)
-from_more names clauses func i c o l e none is g = record {
+pub from_more : (names : NameList) (ruled : Ruled) (clauses : List FlatClause) (func i : ℕ) (c : FlatClause) (o : Option Form) → i < length clauses → c ≡ get_or clauses i c → o ≡ None
+    → ((s : Signature) → slice_get names.signatures func ≡ Some s → o ≡ form_over c s) → IsGroupFrom names ruled clauses func i → IsGroupFrom names ruled clauses func (i + 1)
+from_more names ruled clauses func i c o l e none is g = record {
   rest = λ s known. (
-      from_at names clauses func i c None s l e known (sym none ∙ is s known) g ∙ ap (λ (k : ℕ). group_from func s (drop k clauses)) (sym (add-one i))
+      from_at names ruled clauses func i c None s l e known (sym none ∙ is s known) g ∙ ap (λ (k : ℕ). group_among func s ruled (drop k clauses)) (sym (add-one i))
       );
 }
 
-pub from_found : (names : NameList) (clauses : List FlatClause) (func i : ℕ) (c : FlatClause) (o : Option Form) (form : Form) → i < length clauses → c ≡ get_or clauses i c → o ≡ Some form
-    → ((s : Signature) → slice_get names.signatures func ≡ Some s → o ≡ form_over c s) → IsGroupFrom names clauses func i
-    → (s : Signature) → slice_get names.signatures func ≡ Some s → group_from func s clauses ≡ Monotone (monotone_at func s c form)
-from_found names clauses func i c o form l e some is g s known = from_at names clauses func i c (Some form) s l e known (sym some ∙ is s known) g
+pub from_found : (names : NameList) (ruled : Ruled) (clauses : List FlatClause) (func i : ℕ) (c : FlatClause) (o : Option Form) (form : Form) → i < length clauses → c ≡ get_or clauses i c → o ≡ Some form
+    → ((s : Signature) → slice_get names.signatures func ≡ Some s → o ≡ form_over c s) → IsGroupFrom names ruled clauses func i
+    → (s : Signature) → slice_get names.signatures func ≡ Some s → group_among func s ruled clauses ≡ Monotone (monotone_at func s c form)
+from_found names ruled clauses func i c o form l e some is g s known = from_at names ruled clauses func i c (Some form) s l e known (sym some ∙ is s known) g
 
-pub from_end : (names : NameList) (clauses : List FlatClause) (func i : ℕ) → length clauses ≤ i → IsGroupFrom names clauses func i
-    → (s : Signature) → slice_get names.signatures func ≡ Some s → group_from func s clauses ≡ Free (free_at func s)
-from_end names clauses func i l g s known = g.rest s known ∙ ap (group_from func s) (drop_all i clauses l)
+pub from_end : (names : NameList) (ruled : Ruled) (clauses : List FlatClause) (func i : ℕ) → length clauses ≤ i → IsGroupFrom names ruled clauses func i
+    → (s : Signature) → slice_get names.signatures func ≡ Some s → group_among func s ruled clauses ≡ by_branches func s ruled (branches_of func ruled.branches)
+from_end names ruled clauses func i l g s known = g.rest s known ∙ ap (group_among func s ruled) (drop_all i clauses l)
+
+-- ---- cases
+-- a function without cases is free
+pub none_free : (func : ℕ) (s : Signature) (ruled : Ruled) → length (cases_of func ruled.branches) ≡ 0 → by_branches func s ruled (branches_of func ruled.branches) ≡ Free (free_at func s)
+none_free func s ruled = by (branches_of func ruled.branches)
+  where
+    by : (bs : List Branch) → length (map case_of bs) ≡ 0 → by_branches func s ruled bs ≡ Free (free_at func s)
+    by [] e = refl
+    by (b ∷ bs) e = absurd (cc)
+
+-- and one with some is by these
+pub some_cases : (func : ℕ) (s : Signature) (ruled : Ruled) → (length (cases_of func ruled.branches) ≡ 0 → ⊥)
+    → by_branches func s ruled (branches_of func ruled.branches) ≡ Cases (cases_at func s (clauses_of func ruled.clauses) (cases_of func ruled.branches))
+some_cases func s ruled = by (branches_of func ruled.branches)
+  where
+    by : (bs : List Branch) → (length (map case_of bs) ≡ 0 → ⊥) → by_branches func s ruled bs ≡ Cases (cases_at func s (clauses_of func ruled.clauses) (map case_of bs))
+    by [] n = absurd (n refl)
+    by (b ∷ bs) n = refl
+
+pub not_none : (func : ℕ) (ruled : Ruled) → (length (cases_of func ruled.branches) ≡ 0 → ⊥) → branches_of func ruled.branches ≡ [] → ⊥
+not_none func ruled n e = n (ap (λ (bs : List Branch). length (map case_of bs)) e)
 
 -- what a monotone function asks of its clause
 abbrev pub IsKnownFor : NameList → ℕ → FlatClause → Form → Type 0
@@ -68,38 +90,47 @@ signature_at : (ss : List Signature) (func : ℕ) → func < length ss → (s : 
 signature_at [] func l = absurd (omega (arith, l))
 signature_at (s ∷ ss) func l = (get_or (s ∷ ss) func s, slice_get-get_or (s ∷ ss) func s l)
 
-pub known_for : (names : NameList) (clauses : List FlatClause) (func i : ℕ) (c : FlatClause) (o : Option Form) (form : Form) → IsMade names → first_refused names clauses ≡ None → func < length names.signatures
+pub known_for : (names : NameList) (ruled : Ruled) (clauses : List FlatClause) (func i : ℕ) (c : FlatClause) (o : Option Form) (form : Form) → AreRuled names clauses ruled → func < length names.signatures
     → i < length clauses → c ≡ get_or clauses i c → o ≡ Some form → ((s : Signature) → slice_get names.signatures func ≡ Some s → o ≡ form_over c s) → IsKnownFor names func c form
-known_for names clauses func i c o form made taken inside l e some is =
+known_for names ruled clauses func i c o form taken inside l e some is =
     let at = signature_at names.signatures func inside in
     let found : form_over c at.0 ≡ Some form = sym (is at.0 at.1) ∙ some in
-    let nums = form_nums names clauses made taken func at.0 at.1 c form (i, l, sym e) found in
+    let nums = form_nums names clauses ruled taken func at.0 at.1 c form (i, l, sym e) found in
     (at.0, at.1, nums.args, nums.result, found)
 
 -- ---- functions one by one
 -- the groups of those from a place on are still to come
-pub record AreGroupsTo (names : NameList) (clauses : List FlatClause) (order : List ℕ) (i : ℕ) (groups : List Group) : Type 0 where
-  pub rest : groups_of clauses names.signatures order ≡ groups ++ groups_of clauses names.signatures (drop i order)
+pub record AreGroupsTo (names : NameList) (read : Reading) (order : List ℕ) (i : ℕ) (groups : List Group) : Type 0 where
+  pub rest : groups_of read names.signatures order ≡ groups ++ groups_of read names.signatures (drop i order)
 
-pub groups_start : (names : NameList) (clauses : List FlatClause) (order : List ℕ) → AreGroupsTo names clauses order 0 []
-groups_start names clauses order = record { rest = refl }
+pub groups_start : (names : NameList) (read : Reading) (order : List ℕ) → AreGroupsTo names read order 0 []
+groups_start names read order = record { rest = refl }
 
-pub groups_more : (names : NameList) (clauses : List FlatClause) (order : List ℕ) (i func : ℕ) (groups more : List Group) (group : Group) → i < length order → func ≡ get_or order i 0
-    → func < length names.signatures → ((s : Signature) → slice_get names.signatures func ≡ Some s → group ≡ group_from func s clauses) → more ≡ groups ++ group ∷ []
-    → AreGroupsTo names clauses order i groups → AreGroupsTo names clauses order (i + 1) more
-groups_more names clauses order i func groups more group l e inside is grown g =
+pub groups_more : (names : NameList) (read : Reading) (order : List ℕ) (i func : ℕ) (groups more : List Group) (group : Group) → i < length order → func ≡ get_or order i 0
+    → func < length names.signatures → ((s : Signature) → slice_get names.signatures func ≡ Some s → group ≡ group_from func s read) → more ≡ groups ++ group ∷ []
+    → AreGroupsTo names read order i groups → AreGroupsTo names read order (i + 1) more
+groups_more names read order i func groups more group l e inside is grown g =
     let ss = names.signatures in
-    let rest = groups_of clauses ss (drop (suc i) order) in
+    let rest = groups_of read ss (drop (suc i) order) in
     let at = signature_at ss func inside in
-    let first : group_at clauses func (slice_get ss func) ≡ group ∷ [] = ap (group_at clauses func) at.1 ∙ ap (λ (x : Group). x ∷ []) (sym (is at.0 at.1)) in
-    let next : groups_of clauses ss (drop i order) ≡ group ∷ rest =
-    ap (groups_of clauses ss) (drop-cons order i 0 l ∙ ap (λ (k : ℕ). k ∷ drop (suc i) order) (sym e)) ∙ ap (λ (gs : List Group). gs ++ rest) first in
+    let first : group_at read func (slice_get ss func) ≡ group ∷ [] = ap (group_at read func) at.1 ∙ ap (λ (x : Group). x ∷ []) (sym (is at.0 at.1)) in
+    let next : groups_of read ss (drop i order) ≡ group ∷ rest =
+    ap (groups_of read ss) (drop-cons order i 0 l ∙ ap (λ (k : ℕ). k ∷ drop (suc i) order) (sym e)) ∙ ap (λ (gs : List Group). gs ++ rest) first in
     record {
       rest = g.rest ∙ ap (λ (gs : List Group). groups ++ gs) next ∙ sym (append_assoc groups (group ∷ []) rest)
-          ∙ (λ j. sym grown j ++ groups_of clauses ss (drop (sym (add-one i) j) order));
+          ∙ (λ j. sym grown j ++ groups_of read ss (drop (sym (add-one i) j) order));
     }
 
-pub groups_end : (names : NameList) (clauses : List FlatClause) (order : List ℕ) (i : ℕ) (groups : List Group) → length order ≤ i → AreGroupsTo names clauses order i groups
-    → groups ≡ groups_of clauses names.signatures order
-groups_end names clauses order i groups l g =
-    sym (g.rest ∙ ap (λ (ks : List ℕ). groups ++ groups_of clauses names.signatures ks) (drop_all i order l) ∙ append-nil groups)
+pub groups_end : (names : NameList) (read : Reading) (order : List ℕ) (i : ℕ) (groups : List Group) → length order ≤ i → AreGroupsTo names read order i groups
+    → groups ≡ groups_of read names.signatures order
+groups_end names read order i groups l g =
+    sym (g.rest ∙ ap (λ (ks : List ℕ). groups ++ groups_of read names.signatures ks) (drop_all i order l) ∙ append-nil groups)
+
+-- what the class of cases asks for
+pub by_these : (names : NameList) (clauses : List FlatClause) (ruled : Ruled) (func : ℕ) (own : List FlatClause) (cases : List Case) → AreRuled names clauses ruled
+    → All IsUnmet (pairs_from ruled.branches 0 (length names.signatures)) → own ≡ clauses_of func ruled.clauses → cases ≡ cases_of func ruled.branches → (length cases ≡ 0 → ⊥)
+    → (s : Signature) → slice_get names.signatures func ≡ Some s → IsByCases names func s.name (length s.args) own cases (func ∷ [])
+by_these names clauses ruled func own cases are unmet o k some s known =
+    subst (λ (found : List FlatClause). IsByCases names func s.name (length s.args) found cases (func ∷ [])) (sym o)
+    (subst (λ (found : List Case). IsByCases names func s.name (length s.args) (clauses_of func ruled.clauses) found (func ∷ [])) (sym k)
+    (functions_by_cases flattened_is_flat flattened_has_one names clauses ruled are unmet func s known (not_none func ruled (λ none. some (ap length k ∙ none)))))

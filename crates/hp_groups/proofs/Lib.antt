@@ -1,4 +1,2 @@
-pub mod Owners
-pub mod Taken
 pub mod Grouping
 pub mod Classes

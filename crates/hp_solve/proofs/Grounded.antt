@@ -88,7 +88,7 @@ record HasDeclared (p : Problem) (names : NameList) : Type 0 where
 has_declared : (p : Problem) (g : Ground) → IsGroundOf p g → HasDeclared p g.names
 has_declared p g is =
     let said = flattened p g is in
-    let made = groups_are_sound Group ghosts.grow_of ghosts.own ghosts.applied ghosts.clauses ghosts.plan_of ghosts.IsLent (chain_of p is.flats is.base) is.base g (descended p g is) in
+    let made = groups_are_sound Group ghosts.grow_of ghosts.own ghosts.applied ghosts.clauses ghosts.plan_of ghosts.IsLent (chain_of p is.read) is.read.1 g (descended p g is) in
     record { constants = made.begins.constants ∙ said.constants; signatures = made.begins.signatures ∙ said.signatures }
 
 pub names_on_one_line : (p : Problem) (g : Ground) → IsGroundOf p g → AreNamesOnOneLine p → AreOnOneLine g.names

@@ -17,7 +17,7 @@ use Rattle.hp_chain.proofs.ValuesGive.{values_give_a_structure}
 use Rattle.hp_solve.specs.Solved.{IsInScope, IsSat}
 
 pub sat_from : (p : Problem) (g : Ground) (place : Place) (v : Valuation) (s : Structure) (ground : IsGroundOf p g) → IsInScope p
-    → IsModelAt (sorts g.names) g.lines place v → s ≡ structure_of ground.flats g.names v.values → IsSat p s
+    → IsModelAt (sorts g.names) g.lines place v → s ≡ structure_of ground.read.0 g.names v.values → IsSat p s
 sat_from p g place v s ground scope model e = subst (IsSat p) (sym e) (record {
   scope = scope;
   satisfied = values_give_a_structure p g ground v.values (record { sorted = model.sorted; lines = model.all });

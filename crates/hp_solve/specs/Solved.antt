@@ -1,5 +1,5 @@
 -- What a verdict says of a problem.
-use Rattle.std.specs.Prelude.{◌≡◌, ℕ, map, Some, None}
+use Rattle.std.specs.Prelude.{◌≡◌, ℕ, map, None, false}
 use Rattle.std.specs.List.{All}
 use Rattle.hp_tree.specs.declared.problem.Problem.{Problem}
 use Rattle.hp_defs.specs.declared.names.Ground.{Ground}
@@ -15,15 +15,17 @@ use Rattle.hp_descent.specs.declared.answer.Strain.{Strain}
 use Rattle.hp_search.specs.Search.{IsHonestStrain}
 use Rattle.hp_sorts.specs.Faults.{sort_fault}
 use Rattle.hp_terms.specs.Words.{declared_word}
-use Rattle.hp_chain.specs.declared.answer.ChainErr.TheVariants as refusal
-use Rattle.hp_chain.specs.Ground.{IsGroundOf, refusal_of}
+use Rattle.hp_chain.specs.Ground.{IsGroundOf, IsLimited, IsOutside, IsStrained}
+use Rattle.hp_waiting.specs.Waiting.{is_waiting}
 use Rattle.hp_solve.specs.declared.solving.Solved.{Solved}
-use Rattle.hp_solve.specs.declared.solving.Solved.TheVariants.{Sat, Unsat, Spent, Strained, Refused, Limit, Memory}
+use Rattle.hp_solve.specs.declared.solving.Solved.TheVariants.{Sat, Unsat, Spent, Strained, StrainedPair, Outside, Limit, Memory}
 
--- a sorted problem that has a ground set: its clauses can be taken, and it passes no limit
+-- a sorted problem that waits for no class and has a ground set: its clauses can be taken, and it passes no limit
 pub record IsInScope (p : Problem) : Type 0 where
   pub sorted : sort_fault p ≡ None
-  pub within : refusal_of p ≡ None
+  pub built : is_waiting p ≡ false
+  pub within : Ground
+  pub is : IsGroundOf p within
 
 -- no declared name has a line feed, as in each problem that some text spells
 abbrev pub AreNamesOnOneLine : Problem → Type 0
@@ -68,6 +70,7 @@ SolvedAs p most (Sat s) = IsSat p s
 SolvedAs p most (Unsat r) = IsUnsat p r
 SolvedAs p most (Spent r) = IsSpentOn p most r
 SolvedAs p most (Strained s) = IsStrainedOn p s
-SolvedAs p most (Refused r) = refusal_of p ≡ Some (refusal.Refused r)
-SolvedAs p most (Limit l) = refusal_of p ≡ Some (refusal.Limit l)
+SolvedAs p most (StrainedPair s) = IsStrained p s
+SolvedAs p most (Outside o) = IsOutside p o
+SolvedAs p most (Limit l) = IsLimited p l
 SolvedAs p most Memory = Unit {0}

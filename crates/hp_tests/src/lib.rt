@@ -5,6 +5,8 @@
 #[cfg(test)]
 mod asking;
 #[cfg(test)]
+mod cases;
+#[cfg(test)]
 mod forms;
 #[cfg(test)]
 mod limits;

@@ -68,7 +68,7 @@ const FAULTS: [Run; 17] = [
 ];
 
 /// Names and sorts, limits of the text, rules of the profile, and forms that aren't decided yet, the first cause in their order.
-const REFUSALS: [Run; 21] = [
+const REFUSALS: [Run; 22] = [
     ("solve", TRAINS, 13, "not built\n"),
     ("solve", "const c: num; const c: idx;", 6, "sort 2 twice\n"),
     ("solve", "query c < 0;", 6, "sort 1 unknown\n"),
@@ -100,8 +100,8 @@ const REFUSALS: [Run; 21] = [
     (
         "solve",
         "clause [a:num, b:num, c:num, d:num, e:num, f:num] a < b;",
-        13,
-        "not built\n",
+        7,
+        "outside clause 1 rule 1\n",
     ),
     (
         "solve",
@@ -118,16 +118,16 @@ const REFUSALS: [Run; 21] = [
     ("solve", "clause [p:ptr] p = null;", 13, "not built\n"),
     (
         "solve",
-        "fun f(num): num level 1; clause [x:num] f(x) = 0; query f(1) < 0;",
+        "fun a(idx): num level 1; clause [i:idx] a(i) = 0; query a(1) < 0;",
         13,
         "not built\n",
     ),
-    // a function of monotone shape is of num to num, and that of one clause alone; the first clause that can't be taken counts
+    // a function of monotone shape is that of one clause alone, the second one counts; an index in a signature isn't decided yet
     (
         "solve",
         "fun p(num): idx level 1; clause [x:num, y:num] x <= y -> p(x) <= p(y);",
-        7,
-        "outside clause 1 rule 3\n",
+        13,
+        "not built\n",
     ),
     (
         "solve",
@@ -138,8 +138,8 @@ const REFUSALS: [Run; 21] = [
     (
         "solve",
         "fun f(num): num level 1; clause [x:num] f(x) = 0; clause [x:num, y:num] x <= y -> f(x) <= f(y); clause [x:num, y:num] x <= y -> f(x) <= f(y);",
-        13,
-        "not built\n",
+        7,
+        "outside clause 2 rule 4\n",
     ),
     // the argument's form is too wide, in the clause that has it, and then a line of congruence, in the function
     (
@@ -147,6 +147,12 @@ const REFUSALS: [Run; 21] = [
         "const c: num; fun f(num): num level 1; query c = 0; query f(999999999999999999 * (999999999999999999 * (999999999999999999 * c))) = 0;",
         8,
         "limit coefficient item 4\n",
+    ),
+    (
+        "solve",
+        "fun f(num): num level 1; query f(999999999999999999 * (999999999999999999)) = 0; query f(1/999999999999999999 * (1/999999999999999999)) = 0;",
+        8,
+        "limit coefficient item 1\n",
     ),
     (
         "solve",

@@ -8,7 +8,7 @@ use std::test::Fail;
 /// A text, the status, and all that is written.
 type Run = (&'static str, u8, &'static str);
 
-const RUNS: [Run; 9] = [
+const RUNS: [Run; 11] = [
     // a step function through two points
     (
         "fun f(num): num level 1; clause [x:num, y:num] x <= y -> f(x) <= f(y); query f(1) = 5; query f(3) = 7;",
@@ -20,6 +20,11 @@ const RUNS: [Run; 9] = [
         "fun f(num): num level 1; clause [x:num, y:num] x <= y -> f(x) <= f(y); query f(1) = -5;",
         10,
         "satisfiable\nuniverse 1\nfun f/1\nelse -5\nend\n",
+    ),
+    (
+        "fun f(num): num level 1; clause [x:num, y:num] x <= y -> f(x) <= f(y); query f(1) = -5; query f(0) = -7;",
+        10,
+        "satisfiable\nuniverse 1\nfun f/1\n$1 < 1 -> -7\nelse -5\nend\n",
     ),
     // a falling one, whose points stand in the order of their arguments and not of the text
     (
@@ -39,14 +44,20 @@ const RUNS: [Run; 9] = [
         7,
         "outside clause 3 rule 4\n",
     ),
-    (
-        "fun f(num): idx level 1; query 0 < 1; clause [x:num, y:num] x <= y -> f(x) <= f(y);",
-        7,
-        "outside clause 2 rule 3\n",
-    ),
-    // a form that waits for its class, in front of a clause that breaks a rule and behind one
+    // also where the clause of monotone shape is a later one
     (
         "fun f(num): num level 1; clause [x:num] f(x) <= 0; clause [x:num, y:num] x <= y -> f(x) <= f(y); clause [x:num, y:num] x <= y -> f(x) <= f(y);",
+        7,
+        "outside clause 2 rule 4\n",
+    ),
+    // forms that wait for their class come before all rules: an index in a signature, and two levels
+    (
+        "fun p(num): idx level 1; fun f(num): num level 1; clause [x:num] f(x) < 0; clause [x:num, y:num] x <= y -> p(x) <= p(y);",
+        13,
+        "not built\n",
+    ),
+    (
+        "fun f(num): num level 1; fun g(num): num level 2; clause [x:num] f(x) < 0; clause [x:num] g(x) <= 0;",
         13,
         "not built\n",
     ),
@@ -130,5 +141,9 @@ fn refutations_with_instances(rt: HostRuntime) -> Result<(), Fail> {
     let (found, written) = answer(rt.alloc(), "solve", text.as_bytes())?;
     assert_eq!(rt; found, 20);
     assert!(rt; written.as_slice().starts_with(LINES.as_bytes()));
+    let loose =
+        "const c, d: num; fun f(num): num level 1; clause [x:num, y:num] x <= y -> f(x) <= f(y); query c <= d; query f(d) < f(c);";
+    let (found, _) = answer(rt.alloc(), "solve", loose.as_bytes())?;
+    assert_eq!(rt; found, 20);
     Ok(())
 }
