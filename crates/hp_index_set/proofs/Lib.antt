@@ -1,0 +1,12 @@
+pub mod Adding
+pub mod Among
+pub mod ClauseWords
+pub mod WordsAdded
+pub mod Kept
+pub mod IndexTerms
+pub mod WordPlaces
+pub mod RowBounds
+pub mod Stay
+pub mod SetsStay
+pub mod Small
+pub mod Along
