@@ -145,6 +145,13 @@ def turned(count):
     return lines + [f"query {names[-1]} < {names[0]};"]
 
 
+def by_cases(count, last):
+    """A function that is a whole number in each of so many intervals of length 1, at a constant between 0 and their end."""
+    lines = ["const d: num;", "fun f(num): num level 1;"]
+    lines += [f"clause [x:num] {n} <= x & x < {n + 1} -> f(x) = {n};" for n in range(count)]
+    return lines + ["query 0 <= d;", f"query d < {count};", last]
+
+
 def function_chain(count):
     """Each constant is a function of the one before, the first two are equal, and the last is another."""
     names = ", ".join(f"c{at}" for at in range(count + 1))
@@ -193,6 +200,9 @@ def main():
         write(f"rising-{count}-late.hp", rising(count, 2))
     for count in (10, 20):
         write(f"turned-{count}.hp", turned(count))
+    for count in (20, 60, 200):
+        write(f"cases-{count}.hp", by_cases(count, f"query f(d) > {count - 2};"))
+        write(f"cases-{count}-late.hp", by_cases(count, "query f(d) > d;"))
     for jobs in (4, 5, 6, 7):
         write(f"machine-{jobs}-fits.hp", one_machine(rng, jobs, 0))
         write(f"machine-{jobs}-late.hp", one_machine(rng, jobs, -1))
