@@ -1,5 +1,5 @@
 -- The groups of a problem over the ground set of its clauses without variables, and what they make.
-use Rattle.std.proofs.Common.{◌≡◌, ◌∙◌, ◌<◌, ℕ, List, [], ◌∷◌, length, false, Some, None, Result, Ok, Err, sym, ap, subst}
+use Rattle.std.proofs.Common.{◌≡◌, ◌∙◌, ◌<◌, List, [], ◌∷◌, length, false, None, Ok, Err, sym, ap, subst}
 use Rattle.std.specs.List.{All, AllZip}
 use Rattle.std.proofs.lemmas.List.Elements.{All-cons, All-head, All-nil, All-tail}
 use Rattle.hp_tree.specs.declared.limit.Limit.{Limit as Which}
@@ -14,6 +14,7 @@ use Rattle.hp_lit.specs.declared.refusal.GroundErr.TheVariants as stop
 use Rattle.hp_lit.specs.Truth.{Values}
 use Rattle.hp_local.specs.Rows.{argument_words}
 use Rattle.hp_sorts.specs.Limits.{passed}
+use Rattle.hp_sorts.proofs.Faultless.{faultless_problems_are_well_sorted}
 use Rattle.hp_defs.specs.declared.names.Constant.{Constant}
 use Rattle.hp_defs.specs.declared.names.Ground.{Ground}
 use Rattle.hp_defs.specs.declared.names.Signature.{Signature}
@@ -22,7 +23,7 @@ use Rattle.hp_base.specs.Making.{Makes}
 use Rattle.hp_base.proofs.Making.{begins_same}
 use Rattle.hp_norm.specs.declared.flat.FlatClause.{FlatClause}
 use Rattle.hp_norm.specs.Flat.{IsFlat, IsFlatOf, IsFlattenable, IsFlattened, flat_of, with_variables}
-use Rattle.hp_norm.specs.Lines.{constants_of}
+use Rattle.hp_norm.specs.Lines.{constants_of, signatures_from}
 use Rattle.hp_norm.specs.Sound.{IsLater}
 use Rattle.hp_norm.proofs.ProblemsFlat.{flattening_says}
 use Rattle.hp_class.specs.Small.{HasFewArguments}
@@ -37,20 +38,24 @@ use Rattle.hp_rules.specs.declared.ruled.RuleErr.TheVariants as rule
 use Rattle.hp_rules.specs.declared.ruled.Ruled.{Ruled}
 use Rattle.hp_rules.specs.Answers.{RuledAs}
 use Rattle.hp_rules.specs.Rules.{rule_words, rules}
-use Rattle.hp_ruled.specs.Laws.{AreRuled}
+use Rattle.hp_ruled.specs.Laws.{AreRuled, HasFewVariables}
 use Rattle.hp_ruled.proofs.Branches.{branches_fit}
 use Rattle.hp_groups.specs.declared.group.Group.{Group}
-use Rattle.hp_groups.specs.declared.group.Group.TheVariants.{Cases, Free, Monotone}
+use Rattle.hp_groups.specs.declared.group.Group.TheVariants.{Arrays, Cases, Free, Monotone}
 use Rattle.hp_groups.specs.contracts.group.GroupLocalClass.TheImpl.{ghosts}
 use Rattle.hp_groups.specs.Groups.{Reading, groups_made}
-use Rattle.hp_groups.proofs.Classes.{IsReadable, groups_lent}
+use Rattle.hp_groups.specs.Laws.{IsReadable, IsWhole}
+use Rattle.hp_groups.proofs.Held.{got_one, groups_lent}
 use Rattle.hp_chain.specs.declared.answer.ChainErr.TheVariants as refusal
 use Rattle.hp_chain.specs.declared.chain.Chain.{Chain}
 use Rattle.hp_chain.specs.Answers.{ClassifiedAs, DescendedAs}
 use Rattle.hp_chain.specs.Ground.{HasPlainNames, IsReadAs, Read, alone, chain_of, flattened, making, met_by, naming, paired, pairs_of, read_of, refused_by, ruled}
 use Rattle.hp_chain.specs.Order.{function_order, levels_of}
 use Rattle.hp_chain.proofs.Levels.{levels_many, order_inside}
-use Rattle.hp_chain.proofs.ValuesDeclared.{all_few_arguments, few_arguments_of}
+use Rattle.hp_chain.proofs.Narrow.{HasFewVariablesToo, few_variables_of, narrow_clauses, narrow_flats}
+use Rattle.hp_chain.proofs.StructuresClauses.{all_with}
+use Rattle.hp_chain.proofs.ValuesDeclared.{all_few_arguments, few_arguments_of, levels_within}
+use Rattle.hp_chain.proofs.ValuesTurns.{has_turn}
 
 all_flat : (g : Ground) → IsLater g g → (clauses : List Clause) (flats : List FlatClause) → AllZip (IsFlatOf g) clauses flats → All (IsFlat g.names) flats
 all_flat g later [] [] are = All-nil (IsFlat g.names)
@@ -83,6 +88,18 @@ module _ (p : Problem) (flats : List FlatClause) (base : Ground) (able : IsFlatt
   pub order_known : All (λ func. func < length base.names.signatures) (function_order p.decls)
   order_known = subst (λ n. All (λ func. func < n) (function_order p.decls)) functions_many (order_inside 16 (levels_of p.decls))
 
+  -- each function has its turn
+  pub order_whole : IsWhole base.names.signatures (function_order p.decls)
+  order_whole func within =
+      let got = got_one (signatures_from 1 p.decls) func (subst (λ (ss : List Signature). func < length ss) is_flattened.signatures within) in
+      let level = levels_within 1 p.decls func got.0 (faultless_problems_are_well_sorted p able.sorted).levels got.1 in
+      has_turn p.decls func got.0 got.1 level.0 level.1
+
+  pub flats_are_narrow : All HasFewVariables flats
+  flats_are_narrow =
+      narrow_flats base (with_variables p.clauses) flats is_flattened.clauses
+      (all_with HasFewVariablesToo p.clauses (narrow_clauses p.clauses (few_variables_of p limits)))
+
   pub plain_constants : HasPlainNames p → HasPlainConstants base.names
   plain_constants plain = subst (λ (cs : List Constant). All HasPlainConstant cs) (sym is_flattened.constants) (all_plain p.decls plain)
 
@@ -94,6 +111,7 @@ readable p read base able limits taken plain = record {
     flat = flats_are_flat p read.flats base able limits taken.named;
     constants = plain_constants p read.flats base able limits taken.named plain;
     few = few_arguments_each p read.flats base able limits taken.named;
+    narrow = flats_are_narrow p read.flats base able limits taken.named;
     ruled_is = taken.rules_give;
   };
   unmet = taken.apart;
@@ -106,6 +124,7 @@ are_ruled p flats base found able limits named plain gives = record {
   flat = flats_are_flat p flats base able limits named;
   constants = plain_constants p flats base able limits named plain;
   few = few_arguments_each p flats base able limits named;
+  narrow = flats_are_narrow p flats base able limits named;
   ruled_is = gives;
 }
 
@@ -121,14 +140,16 @@ pub by_groups : (p : Problem) (chain : Chain) (read : Reading) (base new : Groun
 by_groups p chain read base new (stop.Limit l) taken same h = making (read, base) taken (ap (λ (gs : List Group). groups_made gs base) (sym same) ∙ h)
 by_groups p chain read base new stop.Memory taken same h = tt
 
-pub chain_lent : (p : Problem) (read : Read) → IsReadable read.1.names read.0 → All (λ c. ghosts.IsLent c read.1.names) (chain_of p read)
-chain_lent p read is = groups_lent read.1.names read.0 (function_order p.decls) is
+pub chain_lent : (p : Problem) (read : Read) → IsFlattenable p → passed p ≡ None → IsReadAs p read → HasPlainNames p → All (λ c. ghosts.IsLent c read.1.names) (chain_of p read)
+chain_lent p read able limits taken plain =
+    groups_lent read.1.names read.0 (function_order p.decls) (readable p read.0 read.1 able limits taken plain) (order_whole p read.0.flats read.1 able limits taken.named)
 
 -- groups of these classes are always ready to give tables
 pub is_ready : (c : Group) (names : NameList) (v : Values) → ghosts.Ready c names v
 is_ready (Free c) names v = tt
 is_ready (Monotone c) names v = tt
 is_ready (Cases c) names v = tt
+is_ready (Arrays c) names v = tt
 
 -- ---- why there are no groups
 module _ (p : Problem) where

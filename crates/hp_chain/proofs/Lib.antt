@@ -17,6 +17,8 @@ pub mod StructuresGive
 pub mod Levels
 pub mod OneByOne
 pub mod Slots
+pub mod Narrow
+pub mod OwnTables
 pub mod Chained
 pub mod Ascending
 pub mod FitLines

@@ -1,9 +1,8 @@
 -- Where a structure satisfies a problem, its flat clauses hold at values of all names, and the lines of its clauses without variables
 -- are true.
 use Rattle.std.proofs.Common.{◌≡◌, ◌↔◌, ℕ, Bool, true, false, not, IsTrue, List, [], ◌∷◌, sym, subst}
-use Rattle.std.specs.Prelude.{Option, Some, None, slice_get}
 use Rattle.std.specs.List.{All, AllZip}
-use Rattle.std.proofs.lemmas.List.Elements.{All-append, All-cons, All-contains, All-head, All-nil, All-tail}
+use Rattle.std.proofs.lemmas.List.Elements.{All-cons, All-contains, All-head, All-nil, All-tail}
 use Rattle.hp_math.specs.Rational.{ℚ}
 use Rattle.hp_tree.specs.declared.problem.Clause.{Clause}
 use Rattle.hp_tree.specs.declared.problem.Problem.{Problem}
@@ -13,18 +12,12 @@ use Rattle.hp_tree.specs.Value.{Environment, Functions}
 use Rattle.hp_lit.specs.Sorts.{HaveSorts}
 use Rattle.hp_lit.specs.Truth.{Values}
 use Rattle.hp_local.proofs.Lists.{All-by}
-use Rattle.hp_defs.specs.Names.{NameList}
 use Rattle.hp_defs.specs.declared.names.Ground.{Ground}
-use Rattle.hp_defs.specs.declared.names.Signature.{Signature}
 use Rattle.hp_defs.specs.Names.{sorts}
 use Rattle.hp_norm.specs.declared.flat.FlatClause.{FlatClause}
 use Rattle.hp_norm.specs.Flat.{IsFlatOf, IsFlattenable, IsFlattened, chosen, has_variables, universal_of, with_variables, without_variables}
 use Rattle.hp_norm.specs.Laws.{AgreeOnConstants, ClausesHoldAtOnce, ClausesNeedConstantsAlone}
 use Rattle.hp_norm.specs.Sound.{AreTrue, AreValues, IsLater}
-use Rattle.hp_groups.specs.declared.group.Group.{Group}
-use Rattle.hp_groups.specs.contracts.group.GroupLocalClass.TheImpl.{ghosts}
-use Rattle.hp_groups.specs.Groups.{Reading, group_at, group_from, groups_of}
-use Rattle.hp_groups.proofs.Classes.{HoldsFlat, IsReadable, group_holds}
 
 -- ---- lists
 -- what holds of all clauses holds of those with variables, and of those without
@@ -32,7 +25,7 @@ some_chosen : (P : Clause → Type 0) (b : Bool) (clause : Clause) (clauses : Li
 some_chosen P true clause clauses here rest = All-cons P clause clauses here rest
 some_chosen P false clause clauses here rest = rest
 
-all_with : (P : Clause → Type 0) (clauses : List Clause) → All P clauses → All P (with_variables clauses)
+pub all_with : (P : Clause → Type 0) (clauses : List Clause) → All P clauses → All P (with_variables clauses)
 all_with P [] all = All-nil P
 all_with P (clause ∷ clauses) all = some_chosen P (has_variables clause) clause (with_variables clauses) (All-head P clause clauses all) (all_with P clauses (All-tail P clause clauses all))
 
@@ -40,21 +33,6 @@ all_without : (P : Clause → Type 0) (clauses : List Clause) → All P clauses 
 all_without P [] all = All-nil P
 all_without P (clause ∷ clauses) all =
     some_chosen P (not (has_variables clause)) clause (without_variables clauses) (All-head P clause clauses all) (all_without P clauses (All-tail P clause clauses all))
-
--- ---- groups
--- what holds of all flat clauses holds of those of each group
-module _ (names : NameList) (read : Reading) (is : IsReadable names read) (size : ℕ) (env : Environment) (functions : Functions) (all : All (HoldsFlat size env functions) read.flats) where
-  abbrev HoldsOfGroup : Group → Type 0
-  HoldsOfGroup c = All (HoldsFlat size env functions) (ghosts.clauses c)
-
-  of_place : (func : ℕ) (o : Option Signature) → All HoldsOfGroup (group_at read func o)
-  of_place func None = All-nil HoldsOfGroup
-  of_place func (Some s) = All-cons HoldsOfGroup (group_from func s read) [] (group_holds names read is size env functions all func s) (All-nil HoldsOfGroup)
-
-  pub of_groups : (ss : List Signature) (funcs : List ℕ) → All HoldsOfGroup (groups_of read ss funcs)
-  of_groups ss [] = All-nil HoldsOfGroup
-  of_groups ss (func ∷ funcs) =
-      All-append HoldsOfGroup (group_at read func (slice_get ss func)) (groups_of read ss funcs) (of_place func (slice_get ss func)) (of_groups ss funcs)
 
 -- ---- values of all names
 module _ (size : ℕ) (base end : Ground) (v : Values) (env : Environment) (functions : Functions) (later : IsLater base end) (values : AreValues end v env functions) where

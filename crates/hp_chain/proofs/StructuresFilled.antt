@@ -20,6 +20,7 @@ use Rattle.hp_defs.proofs.Lists.{pushed}
 use Rattle.hp_base.specs.Values.{Extends, arg_values, body_value, signature_function}
 use Rattle.hp_class.specs.Groups.{AreInside}
 use Rattle.hp_class.proofs.Inside.{args_inside}
+use Rattle.hp_groups.proofs.Held.{got_one}
 use Rattle.hp_chain.proofs.StructuresStay.{body_stays, name_stays}
 use Rattle.hp_lit.specs.Growing.{Begins}
 use Rattle.hp_lit.proofs.Growing.{begins_more, begins_same, begins_then}
@@ -33,11 +34,6 @@ take_one_more xs k x e =
 take_nothing : {A : Type 0} (xs : List A) → take 0 xs ≡ []
 take_nothing [] = refl
 take_nothing (x ∷ xs) = refl
-
-got_one : {A : Type 0} (xs : List A) (i : ℕ) → i < length xs → (x : A) × (slice_get xs i ≡ Some x)
-got_one [] i h = absurd (omega arith)
-got_one (x ∷ xs) zero h = (x, refl)
-got_one (x ∷ xs) (suc i) h = got_one xs i (omega arith)
 
 -- ---- functions of values of their sorts
 abbrev pub FunctionsKeep : ℕ → Functions → NameList → Type 0

@@ -6,7 +6,6 @@ use Rattle.hp_math.proofs.Laws.{tests_decide}
 use Rattle.hp_tree.specs.declared.problem.Sort.{Sort}
 use Rattle.hp_tree.specs.declared.problem.Sort.TheVariants.{Num, Idx, Ptr}
 use Rattle.hp_tree.specs.Sorted.{is_of_sort}
-use Rattle.hp_tree.specs.Universal.{HoldsAll}
 use Rattle.hp_lit.specs.Sorts.{AreOfSorts, HaveSorts, IsOfSort}
 use Rattle.hp_lit.specs.Truth.{Values, name_value}
 use Rattle.hp_sorts.proofs.Faultless.{faultless_problems_are_well_sorted}
@@ -14,8 +13,6 @@ use Rattle.hp_defs.specs.Names.{sorts, words}
 use Rattle.hp_defs.proofs.Distinct.{words_are_distinct}
 use Rattle.hp_base.proofs.Making.{begins_same}
 use Rattle.hp_model.specs.Value.{constant, entry_value, functions_of}
-use Rattle.hp_norm.specs.declared.flat.FlatClause.{FlatClause}
-use Rattle.hp_norm.specs.Flat.{universal_of}
 use Rattle.hp_norm.specs.Sound.{AreValues, IsLater}
 use Rattle.hp_norm.proofs.ConstantsAlone.{clauses_need_constants_alone}
 use Rattle.hp_norm.proofs.HoldsAtOnce.{clauses_hold_at_once}
@@ -29,7 +26,8 @@ use Rattle.hp_chain.specs.Ground.{chain_of}
 use Rattle.hp_chain.specs.Laws.{StructuresGiveValues}
 use Rattle.hp_chain.specs.Order.{function_order}
 use Rattle.hp_chain.proofs.Chained.{readable}
-use Rattle.hp_chain.proofs.StructuresClauses.{flat_clauses_hold, lines_are_true, of_groups}
+use Rattle.hp_groups.proofs.Held.{groups_hold}
+use Rattle.hp_chain.proofs.StructuresClauses.{flat_clauses_hold, lines_are_true}
 use Rattle.hp_chain.proofs.StructuresFilled.{extended}
 use Rattle.hp_chain.proofs.StructuresWords.{functions_keep, given_again, given_count, given_inside}
 use Rattle.hp_chain.proofs.ValuesDescended.{descended, flattened}
@@ -79,7 +77,7 @@ structures_give_values p g is s satisfied =
     let here : IsLater g g = record { begins = begins_same g; made = made.sound.made } in
     let flats = flat_clauses_hold size base g v env functions later values clauses_need_constants_alone clauses_hold_at_once p is.read.0.flats (constant s.consts) is.able said agree satisfied.holds in
     let lines = lines_are_true size base g v env functions later values clauses_need_constants_alone clauses_hold_at_once p is.read.0.flats (constant s.consts) is.able said agree satisfied.holds have in
-    let groups = of_groups base.names is.read.0 (readable p is.read.0 is.read.1 is.able is.limits is.taken is.plain) size env functions flats base.names.signatures (function_order p.decls) in (
+    let groups = groups_hold base.names is.read.0 (readable p is.read.0 is.read.1 is.able is.limits is.taken is.plain) size env functions flats base.names.signatures (function_order p.decls) in (
       v,
       record {
         sorted = all_of_sorts (sorts names) v last.1.count have;

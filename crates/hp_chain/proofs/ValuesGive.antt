@@ -1,12 +1,12 @@
 -- Values at which every line of a ground set is true give a structure that satisfies the problem.
-use Rattle.std.proofs.Common.{◌≡◌, ◌∙◌, ◌+◌, ◌≤◌, ℕ, suc, List, [], ◌∷◌, ◌++◌, length, map, Some, refl, sym, ap, subst, arith}
+use Rattle.std.proofs.Common.{◌≡◌, ◌∙◌, ◌+◌, ◌≤◌, ℕ, suc, false, List, [], ◌∷◌, ◌++◌, length, map, Some, refl, sym, ap, subst, arith}
 use Rattle.std.specs.Prelude.{slice_get}
 use Rattle.std.specs.List.{All, Contains}
-use Rattle.std.proofs.lemmas.List.Elements.{All-contains, All-head, Contains-append_left}
+use Rattle.std.proofs.lemmas.List.Elements.{All-contains, All-weaker, Contains-append_left}
 use Rattle.hp_names.specs.Names.{AreDistinct}
 use Rattle.hp_tree.specs.declared.problem.Problem.{Problem}
 use Rattle.hp_tree.specs.declared.problem.Sort.{Sort}
-use Rattle.hp_tree.specs.Universal.{HoldsAll, Universal}
+use Rattle.hp_tree.specs.Universal.{HoldsAll}
 use Rattle.hp_tree.specs.Value.{Environment}
 use Rattle.hp_lit.specs.declared.line.Line.{Line}
 use Rattle.hp_lit.specs.Sorts.{HaveSorts}
@@ -22,8 +22,9 @@ use Rattle.hp_model.specs.Satisfies.{Satisfies}
 use Rattle.hp_model.specs.Value.{constant, functions_of}
 use Rattle.hp_model.specs.WellFormed.{ConstantsFit, IsTableOf, TablesFit, WellFormed}
 use Rattle.hp_local.specs.Frame.{AreCongruent, Fact, Frame, HasPoint}
+use Rattle.hp_local.specs.Law as law
 use Rattle.hp_local.specs.Structures.{AreLevelled, declared_level}
-use Rattle.hp_local.proofs.Lists.{All-by, contains_first}
+use Rattle.hp_local.proofs.Lists.{All-by}
 use Rattle.hp_local.proofs.Structures.{well_formed_tables_are_lower}
 use Rattle.hp_sorts.proofs.Faultless.{faultless_problems_are_well_sorted}
 use Rattle.hp_defs.specs.declared.names.Constant.{Constant}
@@ -43,7 +44,7 @@ use Rattle.hp_norm.specs.Lines.{constants_of, signatures_from}
 use Rattle.hp_norm.specs.Sound.{AreTrue, AreValues, IsLater}
 use Rattle.hp_class.specs.Frame.{AreCongruentPoints, const_values, environment, frame_at}
 use Rattle.hp_class.specs.Groups.{AreInside, HasBeenMade, IsModelledTurn}
-use Rattle.hp_class.specs.Law.{IsTableAt}
+use Rattle.hp_class.specs.Law.{IsTableAt, group_at}
 use Rattle.hp_class.specs.Points.{points}
 use Rattle.hp_class.proofs.FactsCongruent.{facts_are_congruent}
 use Rattle.hp_class.proofs.GroupsMade.{groups_are_sound}
@@ -52,18 +53,21 @@ use Rattle.hp_class.proofs.Through.{words_agree}
 use Rattle.hp_groups.specs.declared.group.Group.{Group}
 use Rattle.hp_groups.specs.contracts.group.GroupLocalClass.TheImpl.{ghosts}
 use Rattle.hp_groups.specs.contracts.group.GroupLocalClass.TheImpl.Laws as group_laws
-use Rattle.hp_groups.specs.Groups.{Reading, group_from}
-use Rattle.hp_groups.proofs.Classes.{applied_none, clauses_held, one_table, own_is}
+use Rattle.hp_groups.specs.Groups.{Reading, function_tables, group_with_arrays, groups_of}
+use Rattle.hp_groups.specs.Laws.{HasOwn, IsFellow}
+use Rattle.hp_groups.proofs.Held.{clauses_held, group_there, groups_give_tables, groups_have_own}
 use Rattle.hp_chain.specs.Ground.{IsGroundOf, chain_of}
 use Rattle.hp_chain.specs.Order.{function_order}
 use Rattle.hp_chain.specs.Structures.{structure_of, tables_from}
 use Rattle.hp_chain.specs.Laws.{AreTrueLines, ValuesGiveAStructure}
 use Rattle.hp_chain.proofs.Chained.{is_ready, readable}
+use Rattle.hp_chain.proofs.OwnTables.{table_at, table_only}
+use Rattle.hp_ruled.proofs.Arrays.{owned}
 use Rattle.hp_chain.proofs.ValuesClauses.{clauses_hold}
 use Rattle.hp_chain.proofs.ValuesDeclared.{are_levelled, constants_fit, declared_function, few_arguments}
-use Rattle.hp_chain.proofs.ValuesDescended.{descended, flattened, group_there}
+use Rattle.hp_chain.proofs.ValuesDescended.{descended, flattened}
 use Rattle.hp_chain.proofs.ValuesFacts.{fact_known, facts_inside, points_extend, sorted_points}
-use Rattle.hp_chain.proofs.ValuesGroups.{All-unmap, applies_alone, law_alone, table_alone}
+use Rattle.hp_chain.proofs.ValuesGroups.{All-unmap, IsNamed, IsOn, applies_own, law_of, member, none_found, table_found, tables_at}
 use Rattle.hp_chain.proofs.ValuesLevels.{IsCompleted, IsOfFunction, clauses_hold as own_clauses_hold, points_kept, tables_by}
 use Rattle.hp_chain.proofs.ValuesSorts.{have_sorts, ranks_inside}
 use Rattle.hp_chain.proofs.ValuesTables.{has_level, table_fits, table_word, tables_fit}
@@ -135,17 +139,18 @@ module _ (p : Problem) (g : Ground) (is : IsGroundOf p g) (v : Values) (are_true
   sums = sums_hold_by_lines g w been_made.sound.sums true_lines
 
   -- ---- functions
+  abbrev order : List ℕ
+  order = function_order p.decls
+
   abbrev group : ℕ → Signature → Group
-  group func t = group_from func t read
+  group func t = group_with_arrays read names.signatures order func t
 
-  abbrev table : ℕ → Signature → Table
-  table func t = (one_table func t read size names w).0
+  -- the one table of each function
+  abbrev table : ℕ → Table
+  table = table_at read size names w names.signatures
 
-  only_table : (func : ℕ) (t : Signature) → ghosts.tables_of (group func t) size names w ≡ table func t ∷ []
-  only_table func t = (one_table func t read size names w).1
-
-  abbrev universals : ℕ → Signature → List Universal
-  universals func t = map universal_of (ghosts.clauses (group func t))
+  only_table : (func : ℕ) (t : Signature) → slice_get names.signatures func ≡ Some t → function_tables read func t size names w ≡ table func ∷ []
+  only_table = table_only read size names w names.signatures
 
   declared_as : (func : ℕ) (t : Signature) → slice_get names.signatures func ≡ Some t → slice_get (signatures_from 1 p.decls) func ≡ Some t
   declared_as func t known = ap (λ (xs : List Signature). slice_get xs func) (sym signatures) ∙ known
@@ -153,13 +158,24 @@ module _ (p : Problem) (g : Ground) (is : IsGroundOf p g) (v : Values) (are_true
   levelled : AreLevelled p
   levelled = are_levelled p (faultless_problems_are_well_sorted p is.able.sorted).levels (subst (λ (xs : List Signature). AreDistinct (map signature_name xs)) signatures been_made.sound.made.functions)
 
+  turn : (func : ℕ) (t : Signature) → slice_get names.signatures func ≡ Some t → Contains order func
+  turn func t known =
+      let as_declared = declared_as func t known in
+      let level = has_level p levelled func t as_declared in
+      has_turn p.decls func t as_declared level.1 level.2
+
   -- its group is one of the chain
   among : (func : ℕ) (t : Signature) → slice_get names.signatures func ≡ Some t → Contains (chain_of p is.read) (group func t)
   among func t known =
-      let as_declared = declared_as func t known in
-      let level = has_level p levelled func t as_declared in
-      group_there read is.read.1.names.signatures (function_order p.decls) func t (has_turn p.decls func t as_declared level.1 level.2)
-      (ap (λ (xs : List Signature). slice_get xs func) (sym been_made.begins.signatures) ∙ known)
+      subst (λ (xs : List Signature). Contains (groups_of read xs order) (group func t)) been_made.begins.signatures
+      (group_there read names.signatures order func t (turn func t known) known)
+
+  -- with the functions of that
+  has_own : (func : ℕ) (t : Signature) → slice_get names.signatures func ≡ Some t → HasOwn read names.signatures order func t
+  has_own func t known = groups_have_own read names.signatures order func t (turn func t known) known
+
+  abbrev IsFellowOf : Group → ℕ → ℕ → Type 0
+  IsFellowOf c level func = IsFellow read names.signatures order c level func
 
   lent : (func : ℕ) (t : Signature) → slice_get names.signatures func ≡ Some t → ghosts.IsLent (group func t) names
   lent func t known =
@@ -170,30 +186,43 @@ module _ (p : Problem) (g : Ground) (is : IsGroundOf p g) (v : Values) (are_true
   congruent : (func : ℕ) (t : Signature) → slice_get names.signatures func ≡ Some t → AreCongruentPoints w (points func names.definitions)
   congruent func t known =
       groups_are_congruent Group ghosts.grow_of ghosts.own ghosts.applied ghosts.clauses ghosts.plan_of ghosts.IsLent (chain_of p is.read) is.read.1 g w (descended p g is) have true_lines
-      (group func t) func (among func t known) (subst (λ (funcs : List ℕ). Contains funcs func) (sym (own_is func t read)) (contains_first func []))
+      (group func t) func (among func t known) (has_own func t known).own
 
   facts_congruent : AreCongruent frame.facts
   facts_congruent = facts_are_congruent size names w been_made.sound.made congruent
 
   -- ---- the structure fits the declarations
-  at_table : (func : ℕ) (t : Signature) → slice_get names.signatures func ≡ Some t → IsTableAt size names [] func (table func t)
-  at_table func t known =
-      table_alone size names func (ghosts.own (group func t)) (ghosts.applied (group func t)) (ghosts.tables_of (group func t) size names w) (table func t)
-      (own_is func t read) (applied_none func t read) (only_table func t)
-      (group_laws.fitting-law (group func t) size names w (lent func t known) some (λ f m. sorted_points size names w been_made.sound.made been_made.sound.names some inside f))
+  group_tables : (func : ℕ) (t : Signature) → slice_get names.signatures func ≡ Some t → ghosts.tables_of (group func t) size names w ≡ map table (ghosts.own (group func t))
+  group_tables func t known = groups_give_tables read names.signatures order size names w table only_table func t known
 
-  all_tables : (from : ℕ) (ts : List Signature) → tables_from read size from ts names w ≡ tables_by table from ts
-  all_tables from [] = refl
-  all_tables from (t ∷ ts) = λ i. only_table from t i ++ all_tables (suc from) ts i
+  at_table : (func : ℕ) (t : Signature) → slice_get names.signatures func ≡ Some t → IsTableAt size names [] func (table func)
+  at_table func t known =
+      let c = group func t in
+      All-contains (λ k. IsTableAt size names [] k (table k)) (ghosts.own c) func
+      (tables_at size names (ghosts.own c) (ghosts.applied c) (ghosts.tables_of c size names w) table (has_own func t known).alone (group_tables func t known)
+      (group_laws.fitting-law c size names w (lent func t known) some (λ f m. sorted_points size names w been_made.sound.made been_made.sound.names some inside f)))
+      (has_own func t known).own
+
+  all_tables : (all : List Signature) (from : ℕ) (ts : List Signature) → ((k : ℕ) (t : Signature) → slice_get ts k ≡ Some t → slice_get names.signatures (from + k) ≡ Some t)
+      → tables_from read size from ts names w ≡ tables_by table from ts
+  all_tables all from [] there = refl
+  all_tables all from (t ∷ ts) there =
+      let here : from + 0 ≡ from = omega arith in
+      let known = ap (λ k. slice_get names.signatures k) (sym here) ∙ there 0 t refl in
+      let next = λ (k : ℕ) (u : Signature) (e : slice_get ts k ≡ Some u). (let at : suc from + k ≡ from + suc k = omega arith in ap (λ j. slice_get names.signatures j) at ∙ there (suc k) u e) in
+      λ i. only_table from t known i ++ all_tables all (suc from) ts next i
+
+  tables_are : s.tables ≡ tables_by table 0 names.signatures
+  tables_are = all_tables names.signatures 0 names.signatures (λ k t e. (let at : 0 + k ≡ k = omega arith in ap (λ j. slice_get names.signatures j) at ∙ e))
 
   fits_tables : TablesFit size p (functions p.decls) s.tables
   fits_tables =
       let fits = tables_fit size p table p.decls 1 0 (λ k t e. (
       let at : k ≡ 0 + k = omega arith in
       let known = ap (λ (xs : List Signature). slice_get xs k) signatures ∙ e in
-      subst (λ (func : ℕ). IsTableOf size p (declared_function t) (table func t)) at
-      (table_fits p size k names t (table k t) declared been_made.sound.made.distinct (few_arguments p k t is.limits e) known (at_table k t known)))) in
-      subst (λ (ts : List Table). TablesFit size p (functions p.decls) ts) (sym (all_tables 0 names.signatures))
+      subst (λ (func : ℕ). IsTableOf size p (declared_function t) (table func)) at
+      (table_fits p size k names t (table k) declared been_made.sound.made.distinct (few_arguments p k t is.limits e) known (at_table k t known)))) in
+      subst (λ (ts : List Table). TablesFit size p (functions p.decls) ts) (sym tables_are)
       (subst (λ (xs : List Signature). TablesFit size p (functions p.decls) (tables_by table 0 xs)) (sym signatures) fits)
 
   constants_inside : AreInside size (map constant_sort (constants_of p.decls)) w
@@ -215,42 +244,64 @@ module _ (p : Problem) (g : Ground) (is : IsGroundOf p g) (v : Values) (are_true
   well_formed = record { universe = some; constants_fit = fits_consts; tables_fit = fits_tables }
 
   -- ---- the law of each group
-  completed : (func : ℕ) (t : Signature) → slice_get names.signatures func ≡ Some t → IsCompleted (declared_level p) frame t (universals func t) (table func t)
-  completed func t known =
+  abbrev law_group : ℕ → Signature → law.Group
+  law_group func t = group_at names (ghosts.own (group func t)) (ghosts.clauses (group func t)) (map table (ghosts.own (group func t)))
+
+  completes : (func : ℕ) (t : Signature) → slice_get names.signatures func ≡ Some t → law.Completes frame (λ word. false) (law_group func t)
+  completes func t known =
       let c = group func t in
       let turns = groups_are_modelled Group ghosts.grow_of ghosts.own ghosts.applied ghosts.clauses ghosts.plan_of ghosts.IsLent (chain_of p is.read) is.read.1 g size w (descended p g is) have facts_congruent true_lines in
-      let turn = All-contains (IsModelledTurn ghosts.own ghosts.applied ghosts.plan_of ghosts.IsLent size names w) (chain_of p is.read) c turns (among func t known) in
-      let law = group_laws.completes-law c size tt turn.mid turn.next names w turn.lent turn.made turn.modelled (is_ready c names w) in
+      let its = All-contains (IsModelledTurn ghosts.own ghosts.applied ghosts.plan_of ghosts.IsLent size names w) (chain_of p is.read) c turns (among func t known) in
+      law_of names frame (ghosts.own c) (ghosts.applied c) (ghosts.clauses c) (ghosts.tables_of c size names w) (map table (ghosts.own c)) (has_own func t known).alone (group_tables func t known)
+      (group_laws.completes-law c size tt its.mid its.next names w its.lent its.made its.modelled (is_ready c names w))
+
+  completed : (func : ℕ) (t : Signature) → slice_get names.signatures func ≡ Some t → IsCompleted (declared_level p) frame names.signatures table func t (law_group func t)
+  completed func t known =
+      let c = group func t in
+      let own = ghosts.own c in
       let level = has_level p levelled func t (declared_as func t known) in
+      let has = has_own func t known in
+      let on : All (IsOn names.signatures t.level) own =
+      All-weaker (IsFellowOf c t.level) (IsOn names.signatures t.level) (λ k f. record { signature = f.signature; known = f.known; on = f.on }) own has.fellows in
+      let named : All (IsNamed names.signatures table) own =
+      All-weaker (IsFellowOf c t.level) (IsNamed names.signatures table)
+      (λ k f. record { signature = f.signature; known = f.known; named = table_word size k names f.signature (table k) f.known (at_table k f.signature f.known) }) own has.fellows in
       record {
-        word = table_word size func names t (table func t) known (at_table func t known);
+        word = table_word size func names t (table func) known (at_table func t known);
         of_level = level.0;
         low = level.1;
         high = level.2;
-        applies = applies_alone names func t (ghosts.own c) (ghosts.applied c) (ghosts.clauses c) known (own_is func t read) (applied_none func t read) ((descended p g is).law.applies c names (lent func t known));
-        law = law_alone names frame func t (ghosts.own c) (ghosts.applied c) (ghosts.clauses c) (ghosts.tables_of c size names w) (table func t) known (own_is func t read) (applied_none func t read) (only_table func t) law;
+        owned = owned names own func t has.own known (All-weaker (IsFellowOf c t.level) (λ k. (u : Signature) × (slice_get names.signatures k ≡ Some u)) (λ k f. (f.signature, f.known)) own has.fellows);
+        members = λ word h. member names t.level own word on h;
+        own_tables = λ lower word h m args. table_found names been_made.sound.made table frame.consts lower word args own named h m.place m.signature m.known m.name;
+        other_tables = λ lower word h args. none_found names been_made.sound.made table frame.consts lower word args own named h;
+        applies = applies_own names own (ghosts.applied c) (ghosts.clauses c) has.alone ((descended p g is).law.applies c names (lent func t known));
+        law = completes func t known;
       }
 
   of_function : (k : Fact) → Contains frame.facts k → IsOfFunction names.signatures k
   of_function k m = let f = fact_known names w names.definitions k m in record { func = f.func; signature = f.signature; known = f.known; word = ap (λ (j : Fact). j.func) (sym f.same) }
 
-  group_clauses : (func : ℕ) (t : Signature) → slice_get names.signatures func ≡ Some t → All (HoldsAll size (environment (words names) w) (functions_of s)) (universals func t)
+  group_clauses : (func : ℕ) (t : Signature) → slice_get names.signatures func ≡ Some t
+      → All (HoldsAll size (environment (words names) w) (functions_of s)) (map universal_of (ghosts.clauses (group func t)))
   group_clauses =
-      own_clauses_hold s (declared_level p) frame names.signatures universals table (λ word. refl) (well_formed_tables_are_lower s p well_formed levelled) (all_tables 0 names.signatures)
+      own_clauses_hold s (declared_level p) frame names.signatures law_group table (λ word. refl) (well_formed_tables_are_lower s p well_formed levelled) tables_are
       been_made.sound.made.functions completed of_function
 
   kept : (k : Fact) → Contains frame.facts k → HasPoint (functions_of s) k
   kept k m =
-      points_kept s (declared_level p) frame names.signatures universals table (λ word. refl) (well_formed_tables_are_lower s p well_formed levelled) (all_tables 0 names.signatures)
+      points_kept s (declared_level p) frame names.signatures law_group table (λ word. refl) (well_formed_tables_are_lower s p well_formed levelled) tables_are
       been_made.sound.made.functions completed of_function k m (facts_inside size names w been_made.sound.made been_made.sound.names some inside k m)
 
   -- ---- clauses
   flats_hold : All (λ c. HoldsAll size (environment (words names) w) (functions_of s) (universal_of c)) flats
   flats_hold = All-by (λ (c : FlatClause). HoldsAll size (environment (words names) w) (functions_of s) (universal_of c)) flats (λ c m. (
-      let held = clauses_held is.read.1.names read (readable p read is.read.1 is.able is.limits is.taken is.plain) c m in
+      let Holds = HoldsAll size (environment (words names) w) (functions_of s) in
+      let held = clauses_held is.read.1.names read order (readable p read is.read.1 is.able is.limits is.taken is.plain) c m in
       let known = ap (λ (xs : List Signature). slice_get xs held.func) been_made.begins.signatures ∙ held.known in
+      let here = All-unmap Holds universal_of (ghosts.clauses (group held.func held.signature)) (group_clauses held.func held.signature known) in
       held.held size (environment (words names) w) (functions_of s)
-      (All-unmap (HoldsAll size (environment (words names) w) (functions_of s)) universal_of (ghosts.clauses (group held.func held.signature)) (group_clauses held.func held.signature known))))
+      (subst (λ (xs : List Signature). All (λ (d : FlatClause). Holds (universal_of d)) (ghosts.clauses (group_with_arrays read xs order held.func held.signature))) been_made.begins.signatures here)))
 
   pub satisfied : Satisfies s p
   satisfied =

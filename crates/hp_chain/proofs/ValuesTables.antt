@@ -88,14 +88,14 @@ pub table_word : (size func : ℕ) (names : NameList) (s : Signature) (table : T
 table_word size func names s table known at = at.name ∙ ap (λ (x : Signature). x.name) (same_Some at.signature s (sym at.known ∙ known))
 
 -- ---- all tables
-pub tables_fit : (size : ℕ) (p : Problem) (table : ℕ → Signature → Table) (decls : List Decl) (item from : ℕ)
-    → ((k : ℕ) (s : Signature) → slice_get (signatures_from item decls) k ≡ Some s → IsTableOf size p (declared_function s) (table (from + k) s))
+pub tables_fit : (size : ℕ) (p : Problem) (table : ℕ → Table) (decls : List Decl) (item from : ℕ)
+    → ((k : ℕ) (s : Signature) → slice_get (signatures_from item decls) k ≡ Some s → IsTableOf size p (declared_function s) (table (from + k)))
     → TablesFit size p (functions decls) (tables_by table from (signatures_from item decls))
 tables_fit size p table [] item from fit = tt
 tables_fit size p table (Const name sort ∷ decls) item from fit = tables_fit size p table decls (item + 1) from fit
 tables_fit size p table (Fun name args result level ∷ decls) item from fit =
     let s : Signature = record { name = name; args = args; result = result; level = level; item = item } in
-    let Fits = λ (func : ℕ) (x : Signature). IsTableOf size p (declared_function x) (table func x) in
+    let Fits = λ (func : ℕ) (x : Signature). IsTableOf size p (declared_function x) (table func) in
     let here : from + 0 ≡ from = omega arith in (
       subst (λ (func : ℕ). Fits func s) here (fit 0 s refl),
       tables_fit size p table decls (item + 1) (suc from) (λ k x e. (let next : from + suc k ≡ suc from + k = omega arith in subst (λ (func : ℕ). Fits func x) next (fit (suc k) x e))),

@@ -1,5 +1,5 @@
 -- The ground set of a problem: the lines of its clauses without variables, and then those of its groups, one after the other.
-use Rattle.std.specs.Prelude.{◌≡◌, ◌⊎◌, ℕ, List, length, Result, Ok, Err, None, false}
+use Rattle.std.specs.Prelude.{◌≡◌, List, length, Result, Ok, Err, None, false}
 use Rattle.std.specs.List.{All}
 use Rattle.hp_names.specs.Names.{is_among}
 use Rattle.hp_tree.specs.declared.limit.Limit.{Limit as limit}

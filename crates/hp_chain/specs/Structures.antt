@@ -7,13 +7,12 @@ use Rattle.hp_model.specs.declared.structure.Structure.{Structure}
 use Rattle.hp_model.specs.declared.structure.Table.{Table}
 use Rattle.hp_rank.specs.Ranks.{ranked, universe_size}
 use Rattle.hp_class.specs.Frame.{const_values}
-use Rattle.hp_groups.specs.contracts.group.GroupLocalClass.TheImpl.{ghosts}
-use Rattle.hp_groups.specs.Groups.{Reading, group_from}
+use Rattle.hp_groups.specs.Groups.{Reading, function_tables}
 
 -- the tables of functions with these signatures in their order, the first of which has this place
 abbrev pub tables_from : Reading → ℕ → ℕ → List Signature → NameList → Values → List Table
 tables_from read size func [] names v = []
-tables_from read size func (s ∷ ss) names v = ghosts.tables_of (group_from func s read) size names v ++ tables_from read size (suc func) ss names v
+tables_from read size func (s ∷ ss) names v = function_tables read func s size names v ++ tables_from read size (suc func) ss names v
 
 -- over values whose pointers are in a universe of so many
 abbrev pub structure_over : Reading → ℕ → NameList → Values → Structure

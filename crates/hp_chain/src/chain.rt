@@ -21,7 +21,7 @@ use hp_tree::Problem;
 use std::alloc::{AllocError, Global};
 
 /// The groups of a problem, in the order of their turns: functions from level 16 down to 1, and within a level as they are
-/// declared.
+/// declared, the arrays of a level together, at the place of the first of them.
 #[derive(Drop)]
 pub struct Chain {
     pub groups: List<Group>,

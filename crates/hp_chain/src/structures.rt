@@ -10,9 +10,10 @@ ghost use Rattle.hp_chain.specs.Structures.{structure_of, tables_from};
 
 use crate::chain::Chain;
 use crate::declared::in_order;
-use crate::order::{function_order, levels};
+use crate::order::levels;
 use hp_class::{TablesErr, ascend_groups};
 use hp_defs::{Constant, Ground};
+use hp_groups::owned;
 use hp_lit::Valuation;
 use hp_model::{ConstValue, Structure, Table};
 use hp_num::{Frac, List};
@@ -22,8 +23,8 @@ use std::alloc::{AllocError, Global};
 
 /// The structure that values of names give. Its universe has null and the values of pointers by rank; each constant has its
 /// value, in the order of declarations; and each function, in that order, has the table of its class: a free function a row
-/// for each of its applications in the order of their making, equal arguments once, and 0 elsewhere; a monotone function the
-/// step function through its applications.
+/// for each of its applications in the order of their making, equal arguments once, and 0 elsewhere; a monotone function and
+/// an array the step function through its applications; and a function by cases rows for its applications and then its cases.
 ///
 /// It asks for the groups that have made the ground set, the sorts of its names, and values of these sorts, of which those of
 /// sort idx have magnitudes of at most 10^37. `Err` says that memory was wanting.
@@ -75,8 +76,8 @@ fn tables(
         Err(TablesErr::Memory) => return Err(AllocError),
     };
     let levels = levels(alloc, p.decls.as_slice())?;
-    let order = function_order(alloc, levels.as_slice())?;
-    in_order(alloc, levels.len(), order.as_slice(), made)
+    let places = owned(alloc, groups)?;
+    in_order(alloc, levels.len(), places.as_slice(), made)
 }
 
 /// The values of the constants, in the order of declarations.

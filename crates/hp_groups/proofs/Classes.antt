@@ -1,11 +1,10 @@
--- The groups of functions, by the class of each: what the laws of the trait ask of them.
-use Rattle.std.proofs.Common.{◌≡◌, ◌∙◌, ◌⊎◌, inl, inr, ℕ, zero, suc, List, [], ◌∷◌, ◌++◌, map, length, Bool, true, false, if◌then◌else◌, ◌||◌, Option, Some, None, refl, sym, ap, subst}
-use Rattle.std.specs.Prelude.{◌↔◌, nat_eq, option_and_then, slice_get}
+-- The groups of single functions, by the class of each: what the laws of the trait ask of them.
+use Rattle.std.proofs.Common.{◌≡◌, ◌∙◌, ◌⊎◌, inl, inr, ℕ, zero, suc, List, [], ◌∷◌, map, Bool, true, false, if◌then◌else◌, Option, Some, None, refl, sym, ap, subst}
+use Rattle.std.specs.Prelude.{nat_eq, option_and_then, slice_get}
 use Rattle.std.specs.List.{All, Contains, filter}
-use Rattle.std.proofs.lemmas.Bool.{eq-eqb, ne_eqb, eqb-true}
-use Rattle.std.proofs.lemmas.List.Elements.{All-append, All-cons, All-contains, All-head, All-nil}
+use Rattle.std.proofs.lemmas.Bool.{eq-eqb, eqb-true}
+use Rattle.std.proofs.lemmas.List.Elements.{All-cons, All-contains, All-head, All-nil}
 use Rattle.std.proofs.lemmas.Option.{none-some, same_Some, slice_get-get_or}
-use Rattle.hp_tree.specs.Universal.{HoldsAll}
 use Rattle.hp_tree.specs.Value.{Environment, Functions}
 use Rattle.hp_model.specs.declared.structure.Table.{Table}
 use Rattle.hp_lit.specs.Truth.{Values}
@@ -13,34 +12,33 @@ use Rattle.hp_local.proofs.Lists.{All-by, contains_cases, contains_first, contai
 use Rattle.hp_defs.specs.declared.names.Signature.{Signature}
 use Rattle.hp_defs.specs.Names.{NameList}
 use Rattle.hp_norm.specs.declared.flat.FlatClause.{FlatClause}
-use Rattle.hp_norm.specs.Flat.{IsFlat, universal_of}
+use Rattle.hp_norm.specs.Flat.{IsFlat}
 use Rattle.hp_shapes.specs.declared.shape.Form.{Form}
 use Rattle.hp_shapes.specs.Shapes.{form_of}
-use Rattle.hp_class.specs.Frame.{is_place}
 use Rattle.hp_class.specs.Groups.{IsClass}
-use Rattle.hp_class.specs.Laws.{AreApart}
 use Rattle.hp_class.specs.Small.{HasFewArguments}
 use Rattle.hp_flatten.specs.Flattening.{flattened}
 use Rattle.hp_flatten.proofs.Holds.{flattened_holds}
 use Rattle.hp_flatten.proofs.IsFlat.{flattened_is_flat}
 use Rattle.hp_flatten.proofs.One.{flattened_has_one}
 use Rattle.hp_pairs.specs.declared.branch.Branch.{Branch}
-use Rattle.hp_pairs.specs.Answers.{IsUnmet}
-use Rattle.hp_pairs.specs.Branches.{branches_of, pairs_from}
+use Rattle.hp_pairs.specs.Branches.{branches_of}
 use Rattle.hp_points.specs.Made.{free_at, monotone_at}
 use Rattle.hp_by_cases.specs.Made.{cases_at}
 use Rattle.hp_rules.specs.declared.ruled.CaseClause.{CaseClause}
 use Rattle.hp_rules.specs.declared.ruled.Ruled.{Ruled}
-use Rattle.hp_rules.specs.Rules.{monotone_place}
-use Rattle.hp_ruled.specs.Laws.{AreRuled, IsFromClause, IsOfCases, case_of, cases_of, clause_of, clauses_of}
+use Rattle.hp_rules.specs.Rules.{is_array, monotone_place}
+use Rattle.hp_ruled.specs.Laws.{IsFromClause, IsOfCases, case_of, cases_of, clause_of, clauses_of}
+use Rattle.hp_ruled.proofs.Arrays.{arrays_are_known}
 use Rattle.hp_ruled.proofs.ByCases.{functions_by_cases}
 use Rattle.hp_ruled.proofs.Owning.{cases_own, monotone_once}
-use Rattle.hp_ruled.proofs.Sources.{cases_from, clauses_read}
+use Rattle.hp_ruled.proofs.Sources.{cases_from}
 use Rattle.hp_groups.specs.declared.group.Group.{Group}
 use Rattle.hp_groups.specs.declared.group.Group.TheVariants.{Cases, Free, Monotone}
 use Rattle.hp_groups.specs.contracts.group.GroupLocalClass.TheImpl.{ghosts}
 use Rattle.hp_groups.specs.contracts.group.GroupLocalClass.TheImpl.Laws as laws
-use Rattle.hp_groups.specs.Groups.{Reading, by_branches, group_among, group_at, group_from, group_with, groups_of}
+use Rattle.hp_groups.specs.Groups.{Reading, by_branches, group_among, group_from, group_with}
+use Rattle.hp_groups.specs.Laws.{HoldsFlat, IsReadable}
 use Rattle.hp_ruled.proofs.Shapes.{form_place, place_form}
 use Rattle.hp_ruled.proofs.Shapes.{form_nums}
 
@@ -84,18 +82,9 @@ only : {X : Type 0} (x y : X) → Contains (x ∷ []) y → x ≡ y
 only x y m = elim (contains_cases x [] y m) [ inl e ↦ e | inr none ↦ absurd (contains_none y none) ]
 
 -- a group of one function has one table
-pub one_table : (func : ℕ) (s : Signature) (read : Reading) (size : ℕ) (names : NameList) (v : Values) → (table : Table) × (ghosts.tables_of (group_from func s read) size names v ≡ table ∷ [])
-one_table func s read size names v =
+pub single_table : (func : ℕ) (s : Signature) (read : Reading) (size : ℕ) (names : NameList) (v : Values) → (table : Table) × (ghosts.tables_of (group_from func s read) size names v ≡ table ∷ [])
+single_table func s read size names v =
     group_by (λ (g : Group). (table : Table) × (ghosts.tables_of g size names v ≡ table ∷ [])) func s read (_, refl) (λ some. (_, refl)) (λ c form m e. (_, refl))
-
--- ---- clauses that keep the rules, no pair of whose cases is met
-pub record IsReadable (names : NameList) (read : Reading) : Type 0 where
-  pub ruled : AreRuled names read.flats read.ruled
-  pub unmet : All IsUnmet (pairs_from read.ruled.branches 0 (length names.signatures))
-
--- ---- where clauses hold
-abbrev pub HoldsFlat : ℕ → Environment → Functions → FlatClause → Type 0
-HoldsFlat size env functions c = HoldsAll size env functions (universal_of c)
 
 -- those of a function are among all of cases
 own_among : (func : ℕ) (ks : List CaseClause) (c : FlatClause) → Contains (clauses_of func ks) c → (k : CaseClause) × Contains ks k × (k.func ≡ func) × (k.clause ≡ c)
@@ -144,11 +133,27 @@ group_holds names read is size env functions all func s =
         let holds = flattened_holds names from.source from.application size env functions from.able in
         subst H (sym from.is ∙ own.3) (holds.0 (All-contains H read.flats from.source all from.among))
 
--- the group of a function, from whose clauses a clause follows
-pub record IsHeld (names : NameList) (read : Reading) (c : FlatClause) : Type 0 where
+-- ---- functions that are no arrays
+monotone_other : (names : NameList) (read : Reading) → IsReadable names read → (c : FlatClause) → Contains read.flats c → (func : ℕ) → monotone_place names c ≡ Some func → is_array read.ruled func ≡ false
+monotone_other names read is c m func e = by (is_array read.ruled func) refl
+  where
+    by : (b : Bool) → is_array read.ruled func ≡ b → is_array read.ruled func ≡ false
+    by false h = h
+    by true h = absurd ((arrays_are_known names read.flats read.ruled is.ruled func h).no_monotone c m e)
+
+cases_other : (names : NameList) (read : Reading) → IsReadable names read → (func : ℕ) → (branches_of func read.ruled.branches ≡ [] → ⊥) → is_array read.ruled func ≡ false
+cases_other names read is func some = by (is_array read.ruled func) refl
+  where
+    by : (b : Bool) → is_array read.ruled func ≡ b → is_array read.ruled func ≡ false
+    by false h = h
+    by true h = absurd (some (arrays_are_known names read.flats read.ruled is.ruled func h).no_cases)
+
+-- a function that is no array, and from the clauses of whose group a clause follows
+pub record IsHeldAlone (names : NameList) (read : Reading) (c : FlatClause) : Type 0 where
   pub func : ℕ
   pub signature : Signature
   pub known : slice_get names.signatures func ≡ Some signature
+  pub other : is_array read.ruled func ≡ false
   pub held : (size : ℕ) (env : Environment) (functions : Functions) → All (HoldsFlat size env functions) (ghosts.clauses (group_from func signature read)) → HoldsFlat size env functions c
 
 -- a function with a clause of monotone shape has the first one of these
@@ -190,7 +195,7 @@ same_clause names read is c d func m n e f =
     there_at xs x k = slice_get-get_or xs k.0 x k.1 ∙ ap (λ (y : FlatClause). Some y) k.2
 
 -- a clause of monotone shape is that of the group of its function
-monotone_held : (names : NameList) (read : Reading) → IsReadable names read → (c : FlatClause) → Contains read.flats c → (func : ℕ) → monotone_place names c ≡ Some func → IsHeld names read c
+pub monotone_held : (names : NameList) (read : Reading) → IsReadable names read → (c : FlatClause) → Contains read.flats c → (func : ℕ) → monotone_place names c ≡ Some func → IsHeldAlone names read c
 monotone_held names read is c m func e =
     let p = place_form names c func e in
     let by = monotone_by func p.signature read.ruled read.flats c p.form m p.is in
@@ -199,6 +204,7 @@ monotone_held names read is c m func e =
       func = func;
       signature = p.signature;
       known = p.known;
+      other = monotone_other names read is c m func e;
       held = λ size env functions all. subst (HoldsFlat size env functions) same
           (All-head (HoldsFlat size env functions) by.clause [] (subst (λ (g : Group). All (HoldsFlat size env functions) (ghosts.clauses g)) by.is all));
     }
@@ -226,7 +232,7 @@ by_cases names read is func s known some =
     full [] e = absurd (some e)
     full (b ∷ bs) e = refl
 
-case_held : (names : NameList) (read : Reading) → IsReadable names read → (c : FlatClause) → IsOfCases names read.ruled c → IsHeld names read c
+pub case_held : (names : NameList) (read : Reading) → IsReadable names read → (c : FlatClause) → IsOfCases names read.ruled c → IsHeldAlone names read c
 case_held names read is c of =
     let a = of.application in
     let known : slice_get names.signatures of.func ≡ Some of.able.signature = sym (ap (option_and_then (λ (at : ℕ). slice_get names.signatures at)) of.place) ∙ of.able.known in
@@ -236,6 +242,7 @@ case_held names read is c of =
       func = of.func;
       signature = of.able.signature;
       known = known;
+      other = cases_other names read is of.func some;
       held = λ size env functions all. (
           let H : FlatClause → Type 0 = HoldsFlat size env functions in
           let cases = subst (λ (g : Group). All H (ghosts.clauses g)) (by_cases names read is of.func of.able.signature known some) all in
@@ -244,15 +251,8 @@ case_held names read is c of =
           );
     }
 
-pub clauses_held : (names : NameList) (read : Reading) → IsReadable names read → (c : FlatClause) → Contains read.flats c → IsHeld names read c
-clauses_held names read is c m =
-    elim (All-contains (λ d. ((func : ℕ) × (monotone_place names d ≡ Some func)) ⊎ IsOfCases names read.ruled d) read.flats c (clauses_read names read.flats read.ruled is.ruled) m) [
-      | inl own ↦ monotone_held names read is c m own.0 own.1
-      | inr of ↦ case_held names read is c of
-    ]
-
 -- ---- names that groups were made for
-group_lent : (names : NameList) (read : Reading) → IsReadable names read → (func : ℕ) (s : Signature) → slice_get names.signatures func ≡ Some s → HasFewArguments s
+pub group_lent : (names : NameList) (read : Reading) → IsReadable names read → (func : ℕ) (s : Signature) → slice_get names.signatures func ≡ Some s → HasFewArguments s
     → ghosts.IsLent (group_from func s read) names
 group_lent names read is func s known few =
     group_by (λ (g : Group). ghosts.IsLent g names) func s read
@@ -272,65 +272,10 @@ group_lent names read is func s known few =
     }
     ))
 
-there : {X : Type 0} (xs : List X) (k : ℕ) (x : X) → slice_get xs k ≡ Some x → Contains xs x
+pub there : {X : Type 0} (xs : List X) (k : ℕ) (x : X) → slice_get xs k ≡ Some x → Contains xs x
 there [] k x e = absurd (none-some x e)
 there (y ∷ ys) zero x e = subst (Contains (y ∷ ys)) (same_Some y x e) (contains_first y ys)
 there (y ∷ ys) (suc k) x e = contains_later y ys x (there ys k x e)
-
--- groups of functions in this order are those that the names were lent to
-pub groups_lent : (names : NameList) (read : Reading) (order : List ℕ) → IsReadable names read → All (λ c. ghosts.IsLent c names) (groups_of read names.signatures order)
-groups_lent names read [] is = All-nil (λ (c : Group). ghosts.IsLent c names)
-groups_lent names read (func ∷ funcs) is =
-    All-append Lent (group_at read func (slice_get names.signatures func)) (groups_of read names.signatures funcs) (by (slice_get names.signatures func) refl)
-    (groups_lent names read funcs is)
-  where
-    Lent : Group → Type 0
-    Lent c = ghosts.IsLent c names
-
-    by : (o : Option Signature) → slice_get names.signatures func ≡ o → All Lent (group_at read func o)
-    by None e = All-nil Lent
-    by (Some s) e =
-        All-cons Lent (group_from func s read) [] (group_lent names read is func s e (All-contains HasFewArguments names.signatures s is.ruled.few (there names.signatures func s e)))
-        (All-nil Lent)
-
--- ---- groups of distinct functions
--- no number is there twice
-abbrev pub AreOnce : List ℕ → Type 0
-AreOnce [] = Unit {0}
-AreOnce (k ∷ ks) = (Contains ks k → ⊥) × AreOnce ks
-
-abbrev IsOther : ℕ → Group → Type 0
-IsOther k d = is_place (ghosts.own d ++ ghosts.applied d) k ≡ false
-
-other_group : (k func : ℕ) (s : Signature) (read : Reading) → (func ≡ k → ⊥) → IsOther k (group_from func s read)
-other_group k func s read ne =
-    (λ i. is_place (own_is func s read i ++ applied_none func s read i) k) ∙ ap (λ b. b || false) (ne_eqb func k ne)
-
-other_groups : (k : ℕ) (read : Reading) (signatures : List Signature) (order : List ℕ) → (Contains order k → ⊥) → All (IsOther k) (groups_of read signatures order)
-other_groups k read signatures [] none = All-nil (IsOther k)
-other_groups k read signatures (func ∷ funcs) none =
-    All-append (IsOther k) (group_at read func (slice_get signatures func)) (groups_of read signatures funcs) (by (slice_get signatures func))
-    (other_groups k read signatures funcs (λ m. none (contains_later func funcs k m)))
-  where
-    by : (o : Option Signature) → All (IsOther k) (group_at read func o)
-    by None = All-nil (IsOther k)
-    by (Some s) =
-        All-cons (IsOther k) (group_from func s read) [] (other_group k func s read (λ e. none (subst (Contains (func ∷ funcs)) e (contains_first func funcs)))) (All-nil (IsOther k))
-
-pub groups_apart : (read : Reading) (signatures : List Signature) (order : List ℕ) → AreOnce order → AreApart ghosts.own ghosts.applied (groups_of read signatures order)
-groups_apart read signatures [] once = tt
-groups_apart read signatures (func ∷ funcs) once = by (groups_apart read signatures funcs once.1) (slice_get signatures func)
-  where
-    by : AreApart ghosts.own ghosts.applied (groups_of read signatures funcs) → (o : Option Signature)
-        → AreApart ghosts.own ghosts.applied (group_at read func o ++ groups_of read signatures funcs)
-    by rest None = rest
-    by rest (Some s) = (
-      λ k m. (
-          let same : func ≡ k = only func k (subst (λ ks. Contains ks k) (own_is func s read) m) in
-          other_groups k read signatures funcs (subst (λ n. Contains funcs n → ⊥) same once.0)
-          ),
-      rest,
-    )
 
 -- ---- the laws of the class
 pub groups_are_a_class : IsClass ghosts.grow_of ghosts.own ghosts.applied ghosts.clauses ghosts.plan_of ghosts.IsLent

@@ -1,10 +1,11 @@
 -- Groups one by one: the first clause with a form over a function gives its group, and its cases where there is none.
-use Rattle.std.proofs.Common.{◌≡◌, ◌∙◌, ◌<◌, ◌≤◌, ℕ, ◌+◌, suc, List, [], ◌∷◌, ◌++◌, map, length, drop, get_or, Option, Some, None, refl, sym, ap, subst, append-nil, append_assoc, add-one, arith, drop-cons}
-use Rattle.std.specs.Prelude.{slice_get}
+use Rattle.std.proofs.Common.{◌≡◌, ◌∙◌, ◌<◌, ◌≤◌, ℕ, ◌+◌, suc, List, [], ◌∷◌, ◌++◌, true, false, map, length, drop, get_or, Option, Some, None, refl, sym, ap, subst, append-nil, append_assoc, add-one, arith, drop-cons}
+use Rattle.std.specs.Prelude.{if◌then◌else◌, slice_get}
 use Rattle.std.specs.List.{All}
 use Rattle.std.proofs.lemmas.List.{drop_all}
 use Rattle.std.proofs.lemmas.Option.{slice_get-get_or}
 use Rattle.hp_tree.specs.declared.problem.Sort.TheVariants.{Num}
+use Rattle.hp_tree.specs.Value.{Word}
 use Rattle.hp_defs.specs.declared.names.Signature.{Signature}
 use Rattle.hp_defs.specs.Names.{NameList}
 use Rattle.hp_norm.specs.declared.flat.FlatClause.{FlatClause}
@@ -19,11 +20,16 @@ use Rattle.hp_pairs.specs.Answers.{IsUnmet}
 use Rattle.hp_pairs.specs.Branches.{branches_of, pairs_from}
 use Rattle.hp_points.specs.Made.{free_at, monotone_at}
 use Rattle.hp_by_cases.specs.Made.{cases_at}
+use Rattle.hp_array.specs.Made.{arrays_at}
+use Rattle.hp_arrays.specs.Arrays.{IsArrayGroup}
 use Rattle.hp_rules.specs.declared.ruled.Ruled.{Ruled}
-use Rattle.hp_ruled.specs.Laws.{AreRuled, case_of, cases_of, clauses_of}
+use Rattle.hp_rules.specs.Rules.{is_array}
+use Rattle.hp_ruled.specs.Laws.{AreRuled, array_clauses, case_of, cases_of, clauses_of, own_arrays, place_words}
+use Rattle.hp_ruled.proofs.Arrays.{arrays_are_groups}
 use Rattle.hp_groups.specs.declared.group.Group.{Group}
-use Rattle.hp_groups.specs.declared.group.Group.TheVariants.{Cases, Free, Monotone}
-use Rattle.hp_groups.specs.Groups.{Reading, by_branches, group_among, group_at, group_from, group_with, groups_of}
+use Rattle.hp_groups.specs.declared.group.Group.TheVariants.{Arrays, Cases, Free, Monotone}
+use Rattle.hp_groups.specs.Groups.{Reading, array_group, arrays_once, by_branches, group_among, group_at, group_from, group_with, groups_from, groups_of, levels_after, with_level}
+use Rattle.hp_groups.specs.Laws.{IsWhole}
 use Rattle.hp_ruled.proofs.ByCases.{functions_by_cases}
 use Rattle.hp_ruled.proofs.Shapes.{form_nums}
 
@@ -99,32 +105,63 @@ known_for names ruled clauses func i c o form taken inside l e some is =
     (at.0, at.1, nums.args, nums.result, found)
 
 -- ---- functions one by one
--- the groups of those from a place on are still to come
-pub record AreGroupsTo (names : NameList) (read : Reading) (order : List ℕ) (i : ℕ) (groups : List Group) : Type 0 where
-  pub rest : groups_of read names.signatures order ≡ groups ++ groups_of read names.signatures (drop i order)
+-- the groups of those from a place on are still to come, where the arrays of these levels are there
+pub record AreGroupsTo (names : NameList) (read : Reading) (order : List ℕ) (i : ℕ) (levels : List ℕ) (groups : List Group) : Type 0 where
+  pub rest : groups_of read names.signatures order ≡ groups ++ groups_from read names.signatures order levels (drop i order)
 
-pub groups_start : (names : NameList) (read : Reading) (order : List ℕ) → AreGroupsTo names read order 0 []
-groups_start names read order = record { rest = refl }
+pub groups_start : (names : NameList) (read : Reading) (order levels : List ℕ) (groups : List Group) → levels ≡ [] → groups ≡ [] → AreGroupsTo names read order 0 levels groups
+groups_start names read order levels groups none nothing = record { rest = λ j. sym nothing j ++ groups_from read names.signatures order (sym none j) order }
 
-pub groups_more : (names : NameList) (read : Reading) (order : List ℕ) (i func : ℕ) (groups more : List Group) (group : Group) → i < length order → func ≡ get_or order i 0
-    → func < length names.signatures → ((s : Signature) → slice_get names.signatures func ≡ Some s → group ≡ group_from func s read) → more ≡ groups ++ group ∷ []
-    → AreGroupsTo names read order i groups → AreGroupsTo names read order (i + 1) more
-groups_more names read order i func groups more group l e inside is grown g =
+pub groups_more : (names : NameList) (read : Reading) (order : List ℕ) (i func : ℕ) (levels next : List ℕ) (groups more : List Group) → i < length order → func ≡ get_or order i 0
+    → func < length names.signatures → ((s : Signature) → slice_get names.signatures func ≡ Some s → more ≡ groups ++ group_at read names.signatures order levels func (Some s))
+    → ((s : Signature) → slice_get names.signatures func ≡ Some s → next ≡ levels_after read levels func (Some s))
+    → AreGroupsTo names read order i levels groups → AreGroupsTo names read order (i + 1) next more
+groups_more names read order i func levels next groups more l e inside grown after g =
     let ss = names.signatures in
-    let rest = groups_of read ss (drop (suc i) order) in
     let at = signature_at ss func inside in
-    let first : group_at read func (slice_get ss func) ≡ group ∷ [] = ap (group_at read func) at.1 ∙ ap (λ (x : Group). x ∷ []) (sym (is at.0 at.1)) in
-    let next : groups_of read ss (drop i order) ≡ group ∷ rest =
-    ap (groups_of read ss) (drop-cons order i 0 l ∙ ap (λ (k : ℕ). k ∷ drop (suc i) order) (sym e)) ∙ ap (λ (gs : List Group). gs ++ rest) first in
+    let rest = groups_from read ss order next (drop (suc i) order) in
+    let here = group_at read ss order levels func (Some at.0) in
+    let step : groups_from read ss order levels (drop i order) ≡ here ++ rest =
+    ap (groups_from read ss order levels) (drop-cons order i 0 l ∙ ap (λ (k : ℕ). k ∷ drop (suc i) order) (sym e))
+    ∙ ap (λ (o : Option Signature). group_at read ss order levels func o ++ groups_from read ss order (levels_after read levels func o) (drop (suc i) order)) at.1
+    ∙ ap (λ (ls : List ℕ). here ++ groups_from read ss order ls (drop (suc i) order)) (sym (after at.0 at.1)) in
     record {
-      rest = g.rest ∙ ap (λ (gs : List Group). groups ++ gs) next ∙ sym (append_assoc groups (group ∷ []) rest)
-          ∙ (λ j. sym grown j ++ groups_of read ss (drop (sym (add-one i) j) order));
+      rest = g.rest ∙ ap (λ (gs : List Group). groups ++ gs) step ∙ sym (append_assoc groups here rest)
+          ∙ (λ j. sym (grown at.0 at.1) j ++ groups_from read ss order next (drop (sym (add-one i) j) order));
     }
 
-pub groups_end : (names : NameList) (read : Reading) (order : List ℕ) (i : ℕ) (groups : List Group) → length order ≤ i → AreGroupsTo names read order i groups
+pub groups_end : (names : NameList) (read : Reading) (order : List ℕ) (i : ℕ) (levels : List ℕ) (groups : List Group) → length order ≤ i → AreGroupsTo names read order i levels groups
     → groups ≡ groups_of read names.signatures order
-groups_end names read order i groups l g =
-    sym (g.rest ∙ ap (λ (ks : List ℕ). groups ++ groups_of read names.signatures ks) (drop_all i order l) ∙ append-nil groups)
+groups_end names read order i levels groups l g =
+    sym (g.rest ∙ ap (λ (ks : List ℕ). groups ++ groups_from read names.signatures order levels ks) (drop_all i order l) ∙ append-nil groups)
+
+-- ---- the group of a function, or that of the arrays of its level
+module _ (read : Reading) (ss : List Signature) (order levels : List ℕ) (func : ℕ) (s : Signature) where
+  pub array_at : is_array read.ruled func ≡ true → group_at read ss order levels func (Some s) ≡ arrays_once read ss order levels s.level
+  array_at h = ap (λ b. if b then arrays_once read ss order levels s.level else group_from func s read ∷ []) h
+
+  pub single_at : is_array read.ruled func ≡ false → group_at read ss order levels func (Some s) ≡ group_from func s read ∷ []
+  single_at h = ap (λ b. if b then arrays_once read ss order levels s.level else group_from func s read ∷ []) h
+
+  pub array_after : is_array read.ruled func ≡ true → levels_after read levels func (Some s) ≡ with_level levels s.level
+  array_after h = ap (λ b. if b then with_level levels s.level else levels) h
+
+  pub single_after : is_array read.ruled func ≡ false → levels_after read levels func (Some s) ≡ levels
+  single_after h = ap (λ b. if b then with_level levels s.level else levels) h
+
+-- ---- the arrays of a level
+module _ (names : NameList) (clauses : List FlatClause) (ruled : Ruled) (order : List ℕ) (level : ℕ) (own : List ℕ) (words : List Word) (over : List FlatClause)
+    (f : own ≡ own_arrays ruled names.signatures order level) (w : words ≡ place_words names.signatures own) (o : over ≡ array_clauses level ruled.arrays) where
+  -- what the class asks for
+  pub are_group : AreRuled names clauses ruled → IsWhole names.signatures order → IsArrayGroup names own words over
+  are_group are whole =
+      subst (λ (cs : List FlatClause). IsArrayGroup names own words cs) (sym o)
+      (subst (λ (ws : List Word). IsArrayGroup names own ws (array_clauses level ruled.arrays)) (sym w)
+      (subst (λ (fs : List ℕ). IsArrayGroup names fs (place_words names.signatures fs) (array_clauses level ruled.arrays)) (sym f)
+      (arrays_are_groups names clauses ruled are order whole level)))
+
+  pub group_is : Arrays (arrays_at own words over) ≡ array_group (record { flats = clauses; ruled = ruled }) names.signatures order level
+  group_is = let same = w ∙ ap (place_words names.signatures) f in λ i. Arrays (arrays_at (f i) (same i) (o i))
 
 -- what the class of cases asks for
 pub by_these : (names : NameList) (clauses : List FlatClause) (ruled : Ruled) (func : ℕ) (own : List FlatClause) (cases : List Case) → AreRuled names clauses ruled

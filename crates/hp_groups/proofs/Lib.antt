@@ -1,2 +1,4 @@
 pub mod Grouping
 pub mod Classes
+pub mod Held
+pub mod Apart

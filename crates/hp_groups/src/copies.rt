@@ -7,8 +7,8 @@ use hp_cases::Case;
 use hp_norm::FlatClause;
 use hp_num::List;
 use hp_pairs::{Branch, Given};
-use hp_rules::CaseClause;
-use hp_tree::{Atom, Term, Var};
+use hp_rules::{CaseClause, copy_atoms, copy_clause};
+use hp_tree::Term;
 use std::alloc::{AllocError, Global};
 
 /// The cases of the function at a place in the order of declarations, counted from 0, in their order.
@@ -56,41 +56,8 @@ pub fn clauses_of(
     let mut own = List::new(alloc);
     for clause in clauses {
         if clause.func == func {
-            own.push(copy(alloc, &clause.clause)?)?;
+            own.push(copy_clause(alloc, &clause.clause)?)?;
         }
     }
     Ok(own)
-}
-
-/// An equal clause.
-pub fn copy(alloc: Global, clause: &FlatClause) -> Result<FlatClause, AllocError>
-    ensures { IfOk result (λ copy. copy ≡ clause.now) }
-{
-    Ok(FlatClause {
-        clause: clause.clause,
-        item: clause.item,
-        vars: copy_vars(alloc, clause.vars.as_slice())?,
-        guard: copy_atoms(alloc, clause.guard.as_slice())?,
-        head: copy_atoms(alloc, clause.head.as_slice())?,
-    })
-}
-
-fn copy_vars(alloc: Global, vars: &[Var]) -> Result<List<Var>, AllocError>
-    ensures { IfOk result (λ copies. copies ≡ vars.now) }
-{
-    let mut copies = List::new(alloc);
-    for var in vars {
-        copies.push(var.copy(alloc)?)?;
-    }
-    Ok(copies)
-}
-
-fn copy_atoms(alloc: Global, atoms: &[Atom]) -> Result<List<Atom>, AllocError>
-    ensures { IfOk result (λ copies. copies ≡ atoms.now) }
-{
-    let mut copies = List::new(alloc);
-    for atom in atoms {
-        copies.push(atom.copy(alloc)?)?;
-    }
-    Ok(copies)
 }

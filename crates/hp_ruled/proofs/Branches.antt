@@ -31,7 +31,7 @@ use Rattle.hp_pairs.specs.declared.branch.Given.{Given}
 use Rattle.hp_pairs.specs.Answers.{BranchIsFit, IsFitGap}
 use Rattle.hp_rules.specs.declared.ruled.CaseClause.{CaseClause}
 use Rattle.hp_rules.specs.declared.ruled.Ruled.{Ruled}
-use Rattle.hp_rules.specs.Rules.{first_row, is_num_function, monotone_places, new_branch, nothing_ruled, rows_of, rule_words}
+use Rattle.hp_rules.specs.Rules.{first_row, is_num_function, monotone_places, new_branch, nothing_ruled, rows_of, rule_words, with_branches}
 use Rattle.hp_ruled.specs.Laws.{AreRuled, BranchesAreFit, case_of, given_term}
 use Rattle.hp_ruled.proofs.Applications.{all_get, case_able, num_signature}
 use Rattle.hp_ruled.proofs.Guards.{IsRuleAtom, atom_rowed, guard_rules, head_bounds, no_applications, term_rowed}
@@ -170,7 +170,7 @@ module _ (flatten : FlattenedIsFlat) (has_one : FlattenedHasOne) (names : NameLi
   monotone = monotone_places names clauses
 
   case_says : (before : Ruled) (c : FlatClause) (after : Ruled) → Contains clauses c → AllSay names before → (r : CaseRead names monotone before c after)
-      → AllSay names (record { owned = r.func ∷ before.owned; branches = r.branches; clauses = before.clauses ++ record { func = r.func; clause = flattened r.application c } ∷ [] })
+      → AllSay names (with_branches before r.func (flattened r.application c) r.branches)
   case_says before c after among all r =
       let able = case_able names monotone before c after r are.constants are.few (All-contains (IsFlat names) clauses c are.flat among) in
       let a = r.application in
@@ -227,7 +227,8 @@ module _ (flatten : FlattenedIsFlat) (has_one : FlattenedHasOne) (names : NameLi
 
   say_more : (done : List FlatClause) (before : Ruled) (c : FlatClause) (after : Ruled) → Contains clauses c → AllSay names before → Read names monotone before c after → AllSay names after
   say_more done before c after among all (inl r) = subst (AllSay names) r.is (record { branches = all.branches; clauses = all.clauses })
-  say_more done before c after among all (inr r) = subst (AllSay names) r.is (case_says before c after among all r)
+  say_more done before c after among all (inr (inl r)) = subst (AllSay names) r.is (case_says before c after among all r)
+  say_more done before c after among all (inr (inr r)) = subst (AllSay names) r.is (record { branches = all.branches; clauses = all.clauses })
 
   pub all_say : AllSay names ruled
   all_say = all_keep names monotone (Contains clauses) (λ done r. AllSay names r) say_more [] clauses nothing_ruled ruled (All-contains_itself clauses) (nothing_says names) are.ruled_is

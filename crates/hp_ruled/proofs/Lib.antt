@@ -10,3 +10,4 @@ pub mod Sorts
 pub mod Branches
 pub mod ByCases
 pub mod Shapes
+pub mod Arrays

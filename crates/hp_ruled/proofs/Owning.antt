@@ -15,9 +15,9 @@ use Rattle.hp_flatten.specs.Flattening.{flattened}
 use Rattle.hp_pairs.specs.declared.branch.Branch.{Branch}
 use Rattle.hp_pairs.specs.Branches.{branches_of}
 use Rattle.hp_rules.specs.declared.ruled.Ruled.{Ruled}
-use Rattle.hp_rules.specs.Rules.{is_taken, monotone_place, monotone_places, nothing_ruled, read_clause, read_clauses, rule_words, with_place}
+use Rattle.hp_rules.specs.Rules.{array_clause, is_taken, monotone_place, monotone_places, nothing_ruled, read_clause, read_clauses, rule_words, with_array, with_branches, with_monotone, with_place}
 use Rattle.hp_ruled.specs.Laws.{AreRuled, CasesAreOwn, MonotoneClausesAreOnce}
-use Rattle.hp_ruled.proofs.Reading.{CaseRead, Read, all_keep, clause_read}
+use Rattle.hp_ruled.proofs.Reading.{ArrayRead, CaseRead, Read, all_keep, clause_read}
 use Rattle.hp_ruled.proofs.Placing.{Any, all_placed, any_placed, one_placed}
 
 -- ---- places
@@ -78,7 +78,7 @@ module _ (names : NameList) (monotone : List ℕ) where
   module _ (done : List FlatClause) (before : Ruled) (d : FlatClause) (after : Ruled) (owns : OwnsAll done before) where
     -- a clause of monotone shape
     more_monotone : (f : ℕ) → monotone_place names d ≡ Some f → is_taken monotone before.owned (Some f) ≡ false
-        → OwnsAll (done ++ d ∷ []) (record { owned = f ∷ before.owned; branches = before.branches; clauses = before.clauses })
+        → OwnsAll (done ++ d ∷ []) (with_monotone before f)
     more_monotone f place free = record {
       of_monotone = λ c func h m. elim (Contains-push_cases done d c h) [
         | inl there ↦ more_place f func before.owned (owns.of_monotone c func there m)
@@ -96,7 +96,7 @@ module _ (names : NameList) (monotone : List ℕ) where
     }
 
     -- a clause of a case
-    more_cases : (r : CaseRead names monotone before d after) → OwnsAll (done ++ d ∷ []) (record { owned = r.func ∷ before.owned; branches = r.branches; clauses = before.clauses ++ record { func = r.func; clause = flattened r.application d } ∷ [] })
+    more_cases : (r : CaseRead names monotone before d after) → OwnsAll (done ++ d ∷ []) (with_branches before r.func (flattened r.application d) r.branches)
     more_cases r =
         let f = r.func in
         let k = flattened r.application d in
@@ -131,9 +131,28 @@ module _ (names : NameList) (monotone : List ℕ) where
               (All-nil (λ j. Any (λ b. b.func ≡ j.func) r.branches)));
         }
 
+    -- a clause over arrays
+    more_arrays : (r : ArrayRead names before d after) → OwnsAll (done ++ d ∷ []) (with_array before (array_clause names r.level d (r.first ∷ r.more)))
+    more_arrays r =
+        let no_place : (func : ℕ) (c : FlatClause) → d ≡ c → monotone_place names c ≡ Some func → ⊥ = λ func c is m. (let both : None ≡ Some func = sym r.none ∙ ap (monotone_place names) is ∙ m in cc) in
+        record {
+          of_monotone = λ c func h m. elim (Contains-push_cases done d c h) [
+            | inl there ↦ owns.of_monotone c func there m
+            | inr is ↦ absurd (no_place func c is m)
+          ];
+          of_cases = owns.of_cases;
+          apart = λ c func p h m. elim (Contains-push_cases done d c h) [
+            | inl there ↦ owns.apart c func p there m
+            | inr is ↦ absurd (no_place func c is m)
+          ];
+          known = owns.known;
+          have = owns.have;
+        }
+
     owns_more : Read names monotone before d after → OwnsAll (done ++ d ∷ []) after
     owns_more (inl r) = subst (OwnsAll (done ++ d ∷ [])) r.is (more_monotone r.func r.place r.free)
-    owns_more (inr r) = subst (OwnsAll (done ++ d ∷ [])) r.is (more_cases r)
+    owns_more (inr (inl r)) = subst (OwnsAll (done ++ d ∷ [])) r.is (more_cases r)
+    owns_more (inr (inr r)) = subst (OwnsAll (done ++ d ∷ [])) r.is (more_arrays r)
 
 -- ---- all clauses
 pub all_owned : (names : NameList) (clauses : List FlatClause) (ruled : Ruled) → AreRuled names clauses ruled → OwnsAll names (monotone_places names clauses) clauses ruled
@@ -187,14 +206,16 @@ cases_own names clauses ruled are func =
 module _ (names : NameList) (monotone : List ℕ) where
   stays : (before : Ruled) (d : FlatClause) (after : Ruled) (func : ℕ) → is_place before.owned func ≡ true → Read names monotone before d after → is_place after.owned func ≡ true
   stays before d after func own (inl r) = subst (λ (x : Ruled). is_place x.owned func ≡ true) r.is (more_place r.func func before.owned own)
-  stays before d after func own (inr r) = subst (λ (x : Ruled). is_place x.owned func ≡ true) r.is (more_place r.func func before.owned own)
+  stays before d after func own (inr (inl r)) = subst (λ (x : Ruled). is_place x.owned func ≡ true) r.is (more_place r.func func before.owned own)
+  stays before d after func own (inr (inr r)) = subst (λ (x : Ruled). is_place x.owned func ≡ true) r.is own
 
   -- the function of the clause is own
   owned_now : (before : Ruled) (d : FlatClause) (after : Ruled) (func : ℕ) → monotone_place names d ≡ Some func → Read names monotone before d after → is_place after.owned func ≡ true
   owned_now before d after func m (inl r) =
       let same : r.func ≡ func = some_place r.func func (sym r.place ∙ m) in
       subst (λ (x : Ruled). is_place x.owned func ≡ true) r.is (subst (λ z. is_place (r.func ∷ before.owned) z ≡ true) same (same_place r.func before.owned))
-  owned_now before d after func m (inr r) = absurd (let both : None ≡ Some func = sym r.none ∙ m in cc)
+  owned_now before d after func m (inr (inl r)) = absurd (let both : None ≡ Some func = sym r.none ∙ m in cc)
+  owned_now before d after func m (inr (inr r)) = absurd (let both : None ≡ Some func = sym r.none ∙ m in cc)
 
   -- a function that is own has no further clause of monotone shape
   none_left : (func : ℕ) → is_place monotone func ≡ true → (clauses : List FlatClause) (before ruled : Ruled) → read_clauses names monotone before clauses ≡ Ok ruled → is_place before.owned func ≡ true
@@ -207,7 +228,8 @@ module _ (names : NameList) (monotone : List ℕ) where
     where
       refuted : {mid : Ruled} → monotone_place names d ≡ Some func → Read names monotone before d mid → ⊥
       refuted f (inl r) = not_taken monotone before.owned func (subst (λ z. is_taken monotone before.owned (Some z) ≡ false) (some_place r.func func (sym r.place ∙ f)) r.free) p own
-      refuted f (inr r) = (let both : None ≡ Some func = sym r.none ∙ f in cc)
+      refuted f (inr (inl r)) = (let both : None ≡ Some func = sym r.none ∙ f in cc)
+      refuted f (inr (inr r)) = (let both : None ≡ Some func = sym r.none ∙ f in cc)
   none_left func p (d ∷ clauses) before ruled e own (suc k) c at m =
       let s = given.came (read_clause names monotone before d) (λ next. read_clauses names monotone next clauses) ruled e in
       none_left func p clauses s.value ruled s.rest (stays before d s.value func own (clause_read names monotone before d s.value s.first)) k c at m

@@ -1,16 +1,22 @@
 -- What is so of a clause that was read, and what holds of all clauses once it is kept by each of them.
-use Rattle.std.proofs.Common.{◌≡◌, ℕ, List, [], ◌∷◌, ◌++◌, Bool, true, false, not, length, Option, Some, None, Result, Ok, Err, refl, sym, ap, subst, ◌∙◌, append_assoc, append-nil, ◌⊎◌, inl, inr}
+use Rattle.std.proofs.Common.{◌≡◌, ◌&&◌, ℕ, List, [], ◌∷◌, ◌++◌, Bool, true, false, not, length, Option, Some, None, Result, Ok, Err, refl, sym, ap, subst, ◌∙◌, append_assoc, append-nil, ◌⊎◌, inl, inr}
 use Rattle.std.specs.Prelude.{if◌then◌else◌, option_map, option_and_then}
 use Rattle.std.specs.List.{All, list_all, list_any}
 use Rattle.std.proofs.lemmas.Bool.{and_parts, or_parts}
 use Rattle.std.proofs.lemmas.List.Elements.{All-head, All-tail}
 use Rattle.hp_num.proofs.Given as given
+use Rattle.hp_tree.specs.declared.problem.Atom.{Atom}
+use Rattle.hp_tree.specs.declared.problem.Sort.{Sort}
+use Rattle.hp_tree.specs.declared.problem.Sort.TheVariants.{Num, Idx, Ptr}
+use Rattle.hp_tree.specs.declared.problem.Var.{Var}
+use Rattle.hp_tree.specs.Value.{Word}
 use Rattle.hp_lit.specs.declared.literal.NumLit.{NumLit}
 use Rattle.hp_linear.specs.Steps.{Refusable}
+use Rattle.hp_defs.specs.declared.names.Signature.{Signature}
 use Rattle.hp_defs.specs.Names.{NameList}
 use Rattle.hp_norm.specs.declared.flat.FlatClause.{FlatClause}
 use Rattle.hp_shapes.specs.declared.shape.Form.{Form}
-use Rattle.hp_shapes.specs.Shapes.{form_of}
+use Rattle.hp_shapes.specs.Shapes.{form_from, form_of, is_name, is_num, is_value, sides_of}
 use Rattle.hp_flatten.specs.declared.application.Application.{Application}
 use Rattle.hp_flatten.specs.Applications.{clause_applications}
 use Rattle.hp_flatten.specs.Flattening.{are_arguments, flattened}
@@ -18,7 +24,9 @@ use Rattle.hp_cases.specs.declared.case.Bound.{Bound}
 use Rattle.hp_cases.specs.Bounds.{head_bound}
 use Rattle.hp_pairs.specs.declared.branch.Branch.{Branch}
 use Rattle.hp_rules.specs.declared.ruled.Ruled.{Ruled}
-use Rattle.hp_rules.specs.Rules.{application_place, broken, first_word, form_over, function_place, is_case_atom, is_num_function, is_taken, monotone_place, placed, read_applications, read_at, read_case, read_clause, read_clauses, read_guard, read_head, read_owned, read_rows, rows_of, rule_words, with_branches, with_case, with_monotone}
+use Rattle.hp_rules.specs.declared.ruled.RuleErr.{RuleErr}
+use Rattle.hp_index_set.specs.Rules.{has_index_guards, is_idx, reads_at_variables}
+use Rattle.hp_rules.specs.Rules.{application_place, array_clause, broken, first_word, form_over, function_place, has_level, is_array_application, is_case_atom, is_num_function, is_taken, monotone_place, placed, read_applications, read_at, read_case, read_clause, read_clauses, read_guard, read_head, read_level, read_nums, read_owned, read_rows, rows_of, rule_words, signature_of, with_array, with_branches, with_case, with_monotone}
 
 pub ok_is : {A E : Type 0} (x y : A) → ◌≡◌ {A = Result A E} (Ok x) (Ok y) → x ≡ y
 ok_is x y e = cc
@@ -27,6 +35,7 @@ ok_is x y e = cc
 pub record MonotoneRead (names : NameList) (monotone : List ℕ) (before : Ruled) (c : FlatClause) (after : Ruled) : Type 0 where
   pub func : ℕ
   pub place : monotone_place names c ≡ Some func
+  pub nums : list_all (λ a. is_num_function names (application_place names a)) (clause_applications c) ≡ true
   pub free : is_taken monotone before.owned (Some func) ≡ false
   pub is : with_monotone before func ≡ after
 
@@ -49,9 +58,47 @@ pub record CaseRead (names : NameList) (monotone : List ℕ) (before : Ruled) (c
   pub cased : with_case (rule_words names) func (length application.args) (flattened application c) rows bound before.branches ≡ Some branches
   pub is : with_branches before func (flattened application c) branches ≡ after
 
+-- a clause over arrays
+pub record ArrayRead (names : NameList) (before : Ruled) (c : FlatClause) (after : Ruled) : Type 0 where
+  pub first : Application
+  pub more : List Application
+  pub applications : clause_applications c ≡ first ∷ more
+  pub arrays : list_all (is_array_application names) (first ∷ more) ≡ true
+  pub level : ℕ
+  pub levels : list_all (λ a. has_level level (signature_of names a)) (first ∷ more) ≡ true
+  pub guards : has_index_guards names c ≡ true
+  pub reads : reads_at_variables names c ≡ true
+  pub none : monotone_place names c ≡ None
+  pub is : with_array before (array_clause names level c (first ∷ more)) ≡ after
+
+-- ---- clauses over indexes have no monotone shape
+idx_not_num : (s : Sort) → is_idx s ≡ true → is_num s ≡ false
+idx_not_num Num e = absurd (cc)
+idx_not_num Idx e = refl
+idx_not_num Ptr e = refl
+
+index_form : (word : Word) (vars : List Var) (guard head : List Atom) → list_all (λ v. is_idx v.sort) vars ≡ true → form_of word vars guard head ≡ None
+index_form word [] guard head h = refl
+index_form word (x ∷ []) guard head h = refl
+index_form word (x ∷ y ∷ z ∷ vars) guard head h = refl
+index_form word (x ∷ y ∷ []) [] head h = refl
+index_form word (x ∷ y ∷ []) (g ∷ i ∷ guard) head h = refl
+index_form word (x ∷ y ∷ []) (g ∷ []) [] h = refl
+index_form word (x ∷ y ∷ []) (g ∷ []) (a ∷ b ∷ head) h = refl
+index_form word (x ∷ y ∷ []) (g ∷ []) (a ∷ []) h =
+    let first = idx_not_num x.sort (and_parts (is_idx x.sort) (list_all (λ (v : Var). is_idx v.sort) (y ∷ [])) h).0 in
+    ap (λ b. if b && is_num y.sort then form_from (sides_of (is_name word) x.name y.name g) (sides_of (is_value word) x.name y.name a) else None) first
+
+none_placed : (names : NameList) (c : FlatClause) (o : Option Word) → list_all (λ v. is_idx v.sort) c.vars ≡ true → option_and_then (function_place names) (option_and_then (form_over c) o) ≡ None
+none_placed names c None h = refl
+none_placed names c (Some word) h = ap (λ (p : Option Form). option_and_then (function_place names) (option_map (λ (form : Form). word) p)) (index_form word c.vars c.guard c.head h)
+
+index_place : (names : NameList) (c : FlatClause) → has_index_guards names c ≡ true → monotone_place names c ≡ None
+index_place names c h = none_placed names c (first_word (clause_applications c)) (and_parts (list_all (λ (v : Var). is_idx v.sort) c.vars) _ h).0
+
 module _ (names : NameList) (monotone : List ℕ) (before : Ruled) (c : FlatClause) (after : Ruled) where
   abbrev pub Read : Type 0
-  Read = MonotoneRead names monotone before c after ⊎ CaseRead names monotone before c after
+  Read = MonotoneRead names monotone before c after ⊎ (CaseRead names monotone before c after ⊎ ArrayRead names before c after)
 
   abbrev numeric : Application → Bool
   numeric a = is_num_function names (application_place names a)
@@ -130,10 +177,11 @@ module _ (names : NameList) (monotone : List ℕ) (before : Ruled) (c : FlatClau
 
   by_shape : (a : Application) (more : List Application) → clause_applications c ≡ a ∷ more → list_all numeric (a ∷ more) ≡ true → list_any taken (a ∷ more) ≡ false
       → (o : Option ℕ) → monotone_place names c ≡ o → read_owned names before c (a ∷ more) o ≡ Ok after → Read
-  by_shape a more is nums free None m e = inr (by_case a more is m nums free e)
+  by_shape a more is nums free None m e = inr (inl (by_case a more is m nums free e))
   by_shape a more is nums free (Some func) m e = inl (record {
     func = func;
     place = m;
+    nums = ap (list_all numeric) is ∙ nums;
     free = subst (λ o. is_taken monotone before.owned o ≡ false) (first_place a more func is m) (or_parts (taken a) (list_any taken more) free).0;
     is = ok_is (with_monotone before func) after e;
   })
@@ -143,9 +191,54 @@ module _ (names : NameList) (monotone : List ℕ) (before : Ruled) (c : FlatClau
   by_taken a more is nums true free e = absurd (cc)
   by_taken a more is nums false free e = by_shape a more is nums free (monotone_place names c) refl e
 
+  -- ---- arrays
+  module _ (a : Application) (more : List Application) (is : clause_applications c ≡ a ∷ more) (arrays : list_all (is_array_application names) (a ∷ more) ≡ true) where
+    abbrev on : ℕ → Application → Bool
+    on level x = has_level level (signature_of names x)
+
+    abbrev read_as : ℕ → Result Ruled RuleErr
+    read_as level = Ok (with_array before (array_clause names level c (a ∷ more)))
+
+    by_reads : (level : ℕ) → list_all (on level) (a ∷ more) ≡ true → has_index_guards names c ≡ true → (b : Bool) → reads_at_variables names c ≡ b
+        → (if not b then Err (broken c.clause 11) else read_as level) ≡ Ok after → Read
+    by_reads level levels guards false reads e = absurd (cc)
+    by_reads level levels guards true reads e = inr (inr (record {
+      first = a;
+      more = more;
+      applications = is;
+      arrays = arrays;
+      level = level;
+      levels = levels;
+      guards = guards;
+      reads = reads;
+      none = index_place names c guards;
+      is = ok_is (with_array before (array_clause names level c (a ∷ more))) after e;
+    }))
+
+    by_guards : (level : ℕ) → list_all (on level) (a ∷ more) ≡ true → (b : Bool) → has_index_guards names c ≡ b
+        → (if not b then Err (broken c.clause 10) else (if not (reads_at_variables names c) then Err (broken c.clause 11) else read_as level)) ≡ Ok after → Read
+    by_guards level levels false guards e = absurd (cc)
+    by_guards level levels true guards e = by_reads level levels guards (reads_at_variables names c) refl e
+
+    by_levels : (level : ℕ) (b : Bool) → list_all (on level) (a ∷ more) ≡ b
+        → (if not b then Err (broken c.clause 2) else (if not (has_index_guards names c) then Err (broken c.clause 10) else (if not (reads_at_variables names c) then Err (broken c.clause 11) else read_as level)))
+        ≡ Ok after → Read
+    by_levels level false levels e = absurd (cc)
+    by_levels level true levels e = by_guards level levels (has_index_guards names c) refl e
+
+    by_level : (o : Option Signature) → read_level names before c (a ∷ more) o ≡ Ok after → Read
+    by_level None e = absurd (cc)
+    by_level (Some s) e = by_levels s.level (list_all (on s.level) (a ∷ more)) refl e
+
+  by_kind : (a : Application) (more : List Application) → clause_applications c ≡ a ∷ more → (b : Bool) → list_all (is_array_application names) (a ∷ more) ≡ b
+      → (if b then read_level names before c (a ∷ more) (signature_of names a) else Err (broken c.clause 3)) ≡ Ok after → Read
+  by_kind a more is false arrays e = absurd (cc)
+  by_kind a more is true arrays e = by_level a more is arrays (signature_of names a) e
+
   by_numbers : (a : Application) (more : List Application) → clause_applications c ≡ a ∷ more → (b : Bool) → list_all numeric (a ∷ more) ≡ b
-      → (if not b then Err (broken c.clause 3) else (if list_any taken (a ∷ more) then Err (broken c.clause 4) else read_owned names before c (a ∷ more) (monotone_place names c))) ≡ Ok after → Read
-  by_numbers a more is false nums e = absurd (cc)
+      → (if b then read_nums names monotone before c (a ∷ more)
+      else (if list_all (is_array_application names) (a ∷ more) then read_level names before c (a ∷ more) (signature_of names a) else Err (broken c.clause 3))) ≡ Ok after → Read
+  by_numbers a more is false nums e = by_kind a more is (list_all (is_array_application names) (a ∷ more)) refl e
   by_numbers a more is true nums e = by_taken a more is nums (list_any taken (a ∷ more)) refl e
 
   by_applications : (apps : List Application) → clause_applications c ≡ apps → read_applications names monotone before c apps ≡ Ok after → Read

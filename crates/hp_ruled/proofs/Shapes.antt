@@ -1,9 +1,9 @@
 -- The function of a clause of monotone shape: a clause has a form over its own function, and over no other one.
-use Rattle.std.proofs.Common.{◌≡◌, ◌∙◌, ℕ, List, [], ◌∷◌, ◌++◌, length, Bool, true, false, not, cond, map, Option, Some, None, Ok, Err, refl, sym, ap, subst, arith}
-use Rattle.std.specs.Prelude.{if◌then◌else◌, option_and_then, option_map, position, slice_get}
+use Rattle.std.proofs.Common.{◌≡◌, ◌∙◌, ℕ, List, [], ◌∷◌, ◌++◌, length, Bool, true, false, cond, inl, inr, map, Option, Some, None, Ok, refl, sym, ap, subst, arith}
+use Rattle.std.specs.Prelude.{option_and_then, option_map, position, slice_get}
 use Rattle.std.specs.Str.{bytes_eq}
 use Rattle.std.proofs.lemmas.Option.{none-some, same_Some, slice_get-map}
-use Rattle.std.specs.List.{All, Contains, list_all, list_any}
+use Rattle.std.specs.List.{All, Contains, list_all}
 use Rattle.std.proofs.lemmas.Bool.{and_parts}
 use Rattle.std.proofs.lemmas.List.Elements.{All-cons, All-contains, All-head, All-nil}
 use Rattle.hp_num.proofs.Given as given
@@ -34,9 +34,10 @@ use Rattle.hp_flatten.specs.Applications.{applications, atoms_applications, clau
 use Rattle.hp_flatten.specs.Laws.{AreNum}
 use Rattle.hp_flatten.proofs.HoldsTerms.{applications_at, applications_apply}
 use Rattle.hp_rules.specs.declared.ruled.Ruled.{Ruled}
-use Rattle.hp_rules.specs.Rules.{application_place, broken, first_word, form_over, is_num_function, is_taken, monotone_place, monotone_places, nothing_ruled, read_applications, read_clause, read_clauses, read_owned}
+use Rattle.hp_rules.specs.Rules.{application_place, first_word, form_over, is_num_function, monotone_place, monotone_places, nothing_ruled, read_clause, read_clauses}
 use Rattle.hp_ruled.specs.Laws.{AreRuled}
 use Rattle.hp_ruled.proofs.Applications.{IsApplied, atoms_applied, num_signature}
+use Rattle.hp_ruled.proofs.Reading.{Read, clause_read}
 
 -- the function of a clause of monotone shape, by its word
 abbrev monotone_function : FlatClause → Option Word
@@ -157,7 +158,7 @@ stands_at names k word e = by (slice_get names.signatures k) refl
       name = same_Some s.name word (sym (word_there names.signatures k s f) ∙ e);
     }
 
-word_at : (ws : List Word) (word : Word) (k : ℕ) → position (bytes_eq word) ws ≡ Some k → slice_get ws k ≡ Some word
+pub word_at : (ws : List Word) (word : Word) (k : ℕ) → position (bytes_eq word) ws ≡ Some k → slice_get ws k ≡ Some word
 word_at ws word k e = (numbered ws word (record { 0 = k }) (ap (option_map (λ (at : ℕ). record { 0 = at })) e)).there
 
 pub place_form : (names : NameList) (c : FlatClause) (func : ℕ) → monotone_place names c ≡ Some func → HasPlace names c func
@@ -176,30 +177,22 @@ place_form names c func = by (monotone_function c) refl
         }
 
 -- ---- sorts
--- the first function of a clause that was read is of num to num
-first_read : (names : NameList) (monotone : List ℕ) (before : Ruled) (c : FlatClause) (after : Ruled) (a : Application) (more : List Application)
-    → (b : Bool) → list_all (λ x. is_num_function names (application_place names x)) (a ∷ more) ≡ b
-    → (if not b then Err (broken c.clause 3)
-    else (if list_any (λ x. is_taken monotone before.owned (application_place names x)) (a ∷ more) then Err (broken c.clause 4) else read_owned names before c (a ∷ more) (monotone_place names c))) ≡ Ok after
-    → is_num_function names (application_place names a) ≡ true
-first_read names monotone before c after a more false nums e = absurd (cc)
-first_read names monotone before c after a more true nums e =
-    (and_parts (is_num_function names (application_place names a)) (list_all (λ x. is_num_function names (application_place names x)) more) nums).0
-
-clause_first : (names : NameList) (monotone : List ℕ) (before : Ruled) (c : FlatClause) (after : Ruled) (a : Application) (more : List Application) → clause_applications c ≡ a ∷ more
-    → read_clause names monotone before c ≡ Ok after → is_num_function names (application_place names a) ≡ true
-clause_first names monotone before c after a more is e =
-    first_read names monotone before c after a more (list_all (λ x. is_num_function names (application_place names x)) (a ∷ more)) refl
-    (sym (ap (read_applications names monotone before c) is) ∙ e)
-
+-- the first function of a clause of monotone shape that was read is of num to num
 abbrev IsFirstNum : NameList → FlatClause → Type 0
-IsFirstNum names c = (a : Application) (more : List Application) → clause_applications c ≡ a ∷ more → is_num_function names (application_place names a) ≡ true
+IsFirstNum names c = (func : ℕ) → monotone_place names c ≡ Some func → (a : Application) (more : List Application) → clause_applications c ≡ a ∷ more → is_num_function names (application_place names a) ≡ true
+
+clause_first : (names : NameList) (monotone : List ℕ) (before : Ruled) (c : FlatClause) (after : Ruled) → Read names monotone before c after → IsFirstNum names c
+clause_first names monotone before c after (inl r) func m a more is =
+    let numeric = λ (x : Application). is_num_function names (application_place names x) in
+    (and_parts (numeric a) (list_all numeric more) (sym (ap (list_all numeric) is) ∙ r.nums)).0
+clause_first names monotone before c after (inr (inl r)) func m a more is = absurd (none-some func (sym r.none ∙ m))
+clause_first names monotone before c after (inr (inr r)) func m a more is = absurd (none-some func (sym r.none ∙ m))
 
 all_first : (names : NameList) (monotone : List ℕ) (clauses : List FlatClause) (before ruled : Ruled) → read_clauses names monotone before clauses ≡ Ok ruled → All (IsFirstNum names) clauses
 all_first names monotone [] before ruled e = All-nil (IsFirstNum names)
 all_first names monotone (c ∷ clauses) before ruled e =
     let s = given.came (read_clause names monotone before c) (λ next. read_clauses names monotone next clauses) ruled e in
-    All-cons (IsFirstNum names) c clauses (λ a more is. clause_first names monotone before c s.value a more is s.first) (all_first names monotone clauses s.value ruled s.rest)
+    All-cons (IsFirstNum names) c clauses (clause_first names monotone before c s.value (clause_read names monotone before c s.value s.first)) (all_first names monotone clauses s.value ruled s.rest)
 
 one_num : (sorts : List Sort) → AreNum sorts → 1 ≡ length sorts → sorts ≡ Num ∷ []
 one_num [] h e = absurd (cc)
@@ -217,7 +210,7 @@ form_nums names clauses ruled is func s known c form m e =
     let f = form_first c s.name form e in
     let a : Application = record { func = s.name; args = f.arg ∷ [] } in
     let place : application_place names a ≡ Some func = position_of (function_words names) func s.name is.made.functions (word_there names.signatures func s known) in
-    let first = All-contains (IsFirstNum names) clauses c (all_first names (monotone_places names clauses) clauses nothing_ruled ruled is.ruled_is) m a f.more (λ i. f.guard i ++ f.head i) in
+    let first = All-contains (IsFirstNum names) clauses c (all_first names (monotone_places names clauses) clauses nothing_ruled ruled is.ruled_is) m func (form_place names c func s form is.made known e) a f.more (λ i. f.guard i ++ f.head i) in
     let num = num_signature names func (subst (λ (o : Option ℕ). is_num_function names o ≡ true) place first) in
     let same : num.signature ≡ s = same_Some num.signature s (sym num.there ∙ known) in
     let scope = clause_scope names c.vars in

@@ -1,25 +1,34 @@
 -- What clauses say that keep the rules one by one, where no pair of their cases is met.
-use Rattle.std.specs.Prelude.{◌≡◌, ◌⊎◌, ◌<◌, ℕ, nat_eq, List, [], ◌∷◌, map, length, Some, option_map, Ok, slice_get}
+use Rattle.std.specs.Prelude.{◌≡◌, ◌⊎◌, ◌<◌, ◌≤◌, ℕ, nat_eq, List, [], ◌∷◌, ◌++◌, map, length, true, ◌&&◌, Some, option_map, Ok, slice_get}
 use Rattle.std.specs.List.{All, Contains, filter}
+use Rattle.hp_tree.specs.Limits.{most_variables}
+use Rattle.hp_tree.specs.declared.problem.Sort.TheVariants.{Num, Idx}
 use Rattle.hp_tree.specs.declared.term.Term.{Term}
+use Rattle.hp_tree.specs.Value.{Word}
 use Rattle.hp_defs.specs.declared.names.Signature.{Signature}
 use Rattle.hp_defs.specs.Made.{IsMade}
 use Rattle.hp_defs.specs.Names.{NameList}
 use Rattle.hp_norm.specs.declared.flat.FlatClause.{FlatClause}
 use Rattle.hp_norm.specs.Flat.{IsFlat}
+use Rattle.hp_class.specs.Frame.{signature_word}
 use Rattle.hp_class.specs.Small.{HasFewArguments}
 use Rattle.hp_flatten.specs.declared.application.Application.{Application}
 use Rattle.hp_flatten.specs.Flattening.{flattened}
 use Rattle.hp_flatten.specs.Laws.{HasPlainConstants, IsFlattenableClause}
+use Rattle.hp_arrays.specs.Arrays.{IsArrayGroup}
 use Rattle.hp_cases.specs.declared.case.Case.{Case}
 use Rattle.hp_cases.specs.Cases.{IsByCases}
 use Rattle.hp_pairs.specs.declared.branch.Branch.{Branch}
 use Rattle.hp_pairs.specs.declared.branch.Given.{Given}
 use Rattle.hp_pairs.specs.Answers.{BranchIsFit, IsUnmet}
 use Rattle.hp_pairs.specs.Branches.{branches_of, pairs_from}
+use Rattle.hp_rules.specs.declared.ruled.ArrayClause.{ArrayClause}
 use Rattle.hp_rules.specs.declared.ruled.CaseClause.{CaseClause}
 use Rattle.hp_rules.specs.declared.ruled.Ruled.{Ruled}
-use Rattle.hp_rules.specs.Rules.{application_place, monotone_place, rules}
+use Rattle.hp_rules.specs.Rules.{application_place, has_level, is_array, monotone_place, rules}
+
+abbrev pub HasFewVariables : FlatClause → Type 0
+HasFewVariables c = length c.vars ≤ most_variables
 
 -- flat clauses over names that can be made, which keep the rules
 pub record AreRuled (names : NameList) (clauses : List FlatClause) (ruled : Ruled) : Type 0 where
@@ -27,6 +36,7 @@ pub record AreRuled (names : NameList) (clauses : List FlatClause) (ruled : Rule
   pub flat : All (IsFlat names) clauses
   pub constants : HasPlainConstants names
   pub few : All HasFewArguments names.signatures
+  pub narrow : All HasFewVariables clauses
   pub ruled_is : rules names clauses ≡ Ok ruled
 
 -- ---- rows
@@ -65,10 +75,16 @@ pub record IsOfCases (names : NameList) (ruled : Ruled) (c : FlatClause) : Type 
   pub place : application_place names application ≡ Some func
   pub there : Contains ruled.clauses (record { func = func; clause = flattened application c })
 
--- each clause has monotone shape, or is of a case
+-- the clause is over arrays
+pub record IsOverArrays (ruled : Ruled) (c : FlatClause) : Type 0 where
+  pub read : ArrayClause
+  pub there : Contains ruled.arrays read
+  pub is : read.clause ≡ c
+
+-- each clause has monotone shape, is of a case, or is over arrays
 abbrev pub ClausesAreRead : Type 0
 ClausesAreRead = (names : NameList) (clauses : List FlatClause) (ruled : Ruled) → AreRuled names clauses ruled
-    → All (λ c. ((func : ℕ) × (monotone_place names c ≡ Some func)) ⊎ IsOfCases names ruled c) clauses
+    → All (λ c. ((func : ℕ) × (monotone_place names c ≡ Some func)) ⊎ (IsOfCases names ruled c ⊎ IsOverArrays ruled c)) clauses
 
 -- each clause of a case is a flattened one
 pub record IsFromClause (names : NameList) (clauses : List FlatClause) (k : CaseClause) : Type 0 where
@@ -96,3 +112,51 @@ CasesAreOwn = (names : NameList) (clauses : List FlatClause) (ruled : Ruled) →
 abbrev pub MonotoneClausesAreOnce : Type 0
 MonotoneClausesAreOnce = (names : NameList) (clauses : List FlatClause) (ruled : Ruled) → AreRuled names clauses ruled → (i j func : ℕ) (c d : FlatClause)
     → slice_get clauses i ≡ Some c → slice_get clauses j ≡ Some d → monotone_place names c ≡ Some func → monotone_place names d ≡ Some func → i ≡ j
+
+-- ---- arrays
+-- each clause over arrays is one of the clauses
+abbrev pub ArraysAreClauses : Type 0
+ArraysAreClauses = (names : NameList) (clauses : List FlatClause) (ruled : Ruled) → AreRuled names clauses ruled → All (λ k. Contains clauses k.clause) ruled.arrays
+
+-- an array is of idx to num, so it has no clause of monotone shape and no cases
+pub record IsArrayAt (names : NameList) (clauses : List FlatClause) (ruled : Ruled) (func : ℕ) : Type 0 where
+  pub signature : Signature
+  pub known : slice_get names.signatures func ≡ Some signature
+  pub arguments : signature.args ≡ Idx ∷ []
+  pub result : signature.result ≡ Num
+  pub no_monotone : (c : FlatClause) → Contains clauses c → monotone_place names c ≡ Some func → ⊥
+  pub no_cases : branches_of func ruled.branches ≡ []
+
+abbrev pub ArraysAreKnown : Type 0
+ArraysAreKnown = (names : NameList) (clauses : List FlatClause) (ruled : Ruled) → AreRuled names clauses ruled → (func : ℕ) → is_array ruled func ≡ true → IsArrayAt names clauses ruled func
+
+-- the arrays of a level among functions at these places, in this order
+abbrev pub own_arrays : Ruled → List Signature → List ℕ → ℕ → List ℕ
+own_arrays ruled signatures order level = filter (λ func. is_array ruled func && has_level level (slice_get signatures func)) order
+
+-- the words of the functions at these places
+abbrev pub place_words : List Signature → List ℕ → List Word
+place_words signatures [] = []
+place_words signatures (func ∷ funcs) = signature_word (slice_get signatures func) ++ place_words signatures funcs
+
+abbrev pub array_clause_of : ArrayClause → FlatClause
+array_clause_of k = k.clause
+
+-- the clauses over arrays of a level
+abbrev pub array_clauses : ℕ → List ArrayClause → List FlatClause
+array_clauses level ks = map array_clause_of (filter (λ k. nat_eq k.level level) ks)
+
+-- those of a level are a group, among all functions in any order
+abbrev pub ArraysAreGroups : Type 0
+ArraysAreGroups = (names : NameList) (clauses : List FlatClause) (ruled : Ruled) → AreRuled names clauses ruled → (order : List ℕ)
+    → ((func : ℕ) → func < length names.signatures → Contains order func) → (level : ℕ)
+    → IsArrayGroup names (own_arrays ruled names.signatures order level) (place_words names.signatures (own_arrays ruled names.signatures order level)) (array_clauses level ruled.arrays)
+
+-- the level of a clause over arrays is that of each of them
+pub record HasArrays (names : NameList) (k : ArrayClause) : Type 0 where
+  pub first : ℕ
+  pub among : Contains k.funcs first
+  pub each : All (λ func. has_level k.level (slice_get names.signatures func) ≡ true) k.funcs
+
+abbrev pub ClausesHaveArrays : Type 0
+ClausesHaveArrays = (names : NameList) (clauses : List FlatClause) (ruled : Ruled) → AreRuled names clauses ruled → All (HasArrays names) ruled.arrays

@@ -5,3 +5,4 @@ pub mod SameLengths
 pub mod Words
 pub mod WithCase
 pub mod ClausesRead
+pub mod ReadArrays

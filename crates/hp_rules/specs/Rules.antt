@@ -1,5 +1,5 @@
 -- The rules of the profile that clauses keep one by one, and what the clauses are once they are read: each function with the clauses that
--- it owns, and the cases of functions.
+-- it owns, the cases of functions, and the clauses over arrays.
 use Rattle.std.specs.Prelude.{ℕ, List, [], ◌∷◌, ◌++◌, length, Bool, true, false, ◌&&◌, not, nat_eq, if◌then◌else◌, Option, Some, None, position, slice_get, Result, Ok, Err, option_and_then, option_map}
 use Rattle.std.specs.List.{list_all, list_any}
 use Rattle.std.specs.Ordering.{int_eq}
@@ -10,6 +10,7 @@ use Rattle.hp_tree.specs.declared.problem.Atom.{Atom}
 use Rattle.hp_tree.specs.declared.problem.Cmp.{Cmp}
 use Rattle.hp_tree.specs.declared.problem.Cmp.TheVariants.{Lt, Ne}
 use Rattle.hp_tree.specs.declared.problem.Sort.{Sort}
+use Rattle.hp_tree.specs.declared.problem.Sort.TheVariants.{Idx as idx}
 use Rattle.hp_tree.specs.Value.{Word}
 use Rattle.hp_terms.specs.Sorting.{sort_of}
 use Rattle.hp_lit.specs.declared.literal.Lit.{Lit}
@@ -35,8 +36,10 @@ use Rattle.hp_flatten.specs.Flattening.{are_arguments, flattened, is_num}
 use Rattle.hp_cases.specs.declared.case.Bound.{Bound}
 use Rattle.hp_cases.specs.declared.case.Bound.TheVariants.{Low, High, Same}
 use Rattle.hp_cases.specs.Bounds.{head_bound}
+use Rattle.hp_index_set.specs.Rules.{has_index_guards, reads_at_variables}
 use Rattle.hp_pairs.specs.declared.branch.Branch.{Branch}
 use Rattle.hp_pairs.specs.declared.branch.Given.{Given}
+use Rattle.hp_rules.specs.declared.ruled.ArrayClause.{ArrayClause}
 use Rattle.hp_rules.specs.declared.ruled.Ruled.{Ruled}
 use Rattle.hp_rules.specs.declared.ruled.RuleErr.{RuleErr}
 use Rattle.hp_rules.specs.declared.ruled.RuleErr.TheVariants as refusal
@@ -63,6 +66,27 @@ is_num_signature (Some s) = are_num s.args && is_num s.result
 abbrev pub is_num_function : NameList → Option ℕ → Bool
 is_num_function names None = false
 is_num_function names (Some func) = is_num_signature (slice_get names.signatures func)
+
+-- the function of an application, where there is one
+abbrev pub signature_of : NameList → Application → Option Signature
+signature_of names a = option_and_then (λ func. slice_get names.signatures func) (application_place names a)
+
+-- one argument, an index
+abbrev pub is_one_index : List Sort → Bool
+is_one_index (idx ∷ []) = true
+is_one_index _ = false
+
+-- of idx to num
+abbrev pub is_array_signature : Option Signature → Bool
+is_array_signature None = false
+is_array_signature (Some s) = is_one_index s.args && is_num s.result
+
+abbrev pub is_array_application : NameList → Application → Bool
+is_array_application names a = is_array_signature (signature_of names a)
+
+abbrev pub has_level : ℕ → Option Signature → Bool
+has_level level None = false
+has_level level (Some s) = nat_eq s.level level
 
 -- ---- monotone shape
 abbrev pub form_over : FlatClause → Word → Option Word
@@ -179,15 +203,20 @@ with_case words func args c rows bound (b ∷ bs) =
 
 -- ---- clauses one by one
 abbrev pub nothing_ruled : Ruled
-nothing_ruled = record { owned = []; branches = []; clauses = [] }
+nothing_ruled = record { owned = []; branches = []; clauses = []; arrays = [] }
 
 -- the own functions of a monotone clause
 abbrev pub with_monotone : Ruled → ℕ → Ruled
-with_monotone ruled func = record { owned = func ∷ ruled.owned; branches = ruled.branches; clauses = ruled.clauses }
+with_monotone ruled func = record { owned = func ∷ ruled.owned; branches = ruled.branches; clauses = ruled.clauses; arrays = ruled.arrays }
 
 -- and of a clause of a case
 abbrev pub with_branches : Ruled → ℕ → FlatClause → List Branch → Ruled
-with_branches ruled func c branches = record { owned = func ∷ ruled.owned; branches = branches; clauses = ruled.clauses ++ record { func = func; clause = c } ∷ [] }
+with_branches ruled func c branches =
+    record { owned = func ∷ ruled.owned; branches = branches; clauses = ruled.clauses ++ record { func = func; clause = c } ∷ []; arrays = ruled.arrays }
+
+-- and a clause over arrays
+abbrev pub with_array : Ruled → ArrayClause → Ruled
+with_array ruled k = record { owned = ruled.owned; branches = ruled.branches; clauses = ruled.clauses; arrays = ruled.arrays ++ k ∷ [] }
 
 -- rule 7: the case has not two bounds of one kind, and upper minus lower can be formed
 abbrev pub placed : Ruled → ℕ → FlatClause → Option (List Branch) → Result Ruled RuleErr
@@ -241,17 +270,43 @@ abbrev pub read_owned : NameList → Ruled → FlatClause → List Application �
 read_owned names ruled c apps (Some func) = Ok (with_monotone ruled func)
 read_owned names ruled c apps None = read_case names ruled c apps
 
--- rules 3 and 4: functions of num to num, and no second clause of a function with one of monotone shape
-abbrev pub read_functions : NameList → List ℕ → Ruled → FlatClause → List Application → Result Ruled RuleErr
-read_functions names monotone ruled c apps =
-    if not (list_all (λ a. is_num_function names (application_place names a)) apps) then Err (broken c.clause 3)
-    else if list_any (λ a. is_taken monotone ruled.owned (application_place names a)) apps then Err (broken c.clause 4)
+-- rule 4: no second clause of a function with one of monotone shape
+abbrev pub read_nums : NameList → List ℕ → Ruled → FlatClause → List Application → Result Ruled RuleErr
+read_nums names monotone ruled c apps =
+    if list_any (λ a. is_taken monotone ruled.owned (application_place names a)) apps then Err (broken c.clause 4)
     else read_owned names ruled c apps (monotone_place names c)
+
+-- the functions of applications, by their places
+abbrev pub application_places : NameList → List Application → List ℕ
+application_places names [] = []
+application_places names (a ∷ more) = with_place (application_place names a) (application_places names more)
+
+abbrev pub array_clause : NameList → ℕ → FlatClause → List Application → ArrayClause
+array_clause names level c apps = record { level = level; funcs = application_places names apps; clause = c }
+
+-- rules 2, 10 and 11: arrays of one level, guards that bound indexes, and arrays read at variables
+abbrev pub read_arrays : NameList → Ruled → FlatClause → List Application → ℕ → Result Ruled RuleErr
+read_arrays names ruled c apps level =
+    if not (list_all (λ a. has_level level (signature_of names a)) apps) then Err (broken c.clause 2)
+    else if not (has_index_guards names c) then Err (broken c.clause 10)
+    else if not (reads_at_variables names c) then Err (broken c.clause 11)
+    else Ok (with_array ruled (array_clause names level c apps))
+
+abbrev pub read_level : NameList → Ruled → FlatClause → List Application → Option Signature → Result Ruled RuleErr
+read_level names ruled c apps None = Err (broken c.clause 3)
+read_level names ruled c apps (Some s) = read_arrays names ruled c apps s.level
+
+-- rule 3: the functions are all of num to num, or all of idx to num
+abbrev pub read_functions : NameList → List ℕ → Ruled → FlatClause → Application → List Application → Result Ruled RuleErr
+read_functions names monotone ruled c a more =
+    if list_all (λ b. is_num_function names (application_place names b)) (a ∷ more) then read_nums names monotone ruled c (a ∷ more)
+    else if list_all (is_array_application names) (a ∷ more) then read_level names ruled c (a ∷ more) (signature_of names a)
+    else Err (broken c.clause 3)
 
 -- rule 1: an application is left
 abbrev pub read_applications : NameList → List ℕ → Ruled → FlatClause → List Application → Result Ruled RuleErr
 read_applications names monotone ruled c [] = Err (broken c.clause 1)
-read_applications names monotone ruled c (a ∷ more) = read_functions names monotone ruled c (a ∷ more)
+read_applications names monotone ruled c (a ∷ more) = read_functions names monotone ruled c a more
 
 abbrev pub read_clause : NameList → List ℕ → Ruled → FlatClause → Result Ruled RuleErr
 read_clause names monotone ruled c = read_applications names monotone ruled c (clause_applications c)
@@ -260,6 +315,12 @@ abbrev pub read_clauses : NameList → List ℕ → Ruled → List FlatClause �
 read_clauses names monotone ruled [] = Ok ruled
 read_clauses names monotone ruled (c ∷ cs) = read_clause names monotone ruled c >>= λ next. read_clauses names monotone next cs
 
+-- ---- arrays
+-- a clause over arrays applies the function
+abbrev pub is_array : Ruled → ℕ → Bool
+is_array ruled func = list_any (λ k. is_place k.funcs func) ruled.arrays
+
+-- ---- all clauses
 -- what the clauses are, or the first of them that breaks a rule, with the first one that it breaks
 abbrev pub rules : NameList → List FlatClause → Result Ruled RuleErr
 rules names clauses = read_clauses names (monotone_places names clauses) nothing_ruled clauses

@@ -1,6 +1,7 @@
 //! The rules of the profile that clauses keep one by one.
 #![tactic(auto)]
 
+mod arrays;
 mod branches;
 mod copies;
 mod reading;
@@ -9,5 +10,6 @@ mod ruled;
 mod same;
 mod shape;
 
+pub use copies::{copy_atoms, copy_clause};
 pub use reading::rules;
-pub use ruled::{CaseClause, RuleErr, Ruled};
+pub use ruled::{ArrayClause, CaseClause, RuleErr, Ruled};

@@ -1,13 +1,15 @@
 //! The rules, clause by clause.
 
 ghost use Rattle.std.specs.Prelude.{◌≡◌, ◌<◌, ◌^◌, [], ◌∷◌, length, IfOk};
-ghost use Rattle.std.specs.List.{list_all};
+ghost use Rattle.std.specs.List.{All, list_all};
 ghost use Rattle.hp_flatten.specs.Applications.{atoms_applications, clause_applications};
 ghost use Rattle.hp_flatten.specs.Laws.{HasPlainConstants};
 ghost use Rattle.hp_defs.specs.Names.{NameList};
+ghost use Rattle.hp_norm.specs.Flat.{IsFlat};
 ghost use Rattle.hp_rules.specs.Answers.{RuledAs, RuledTo};
-ghost use Rattle.hp_rules.specs.Rules.{broken, is_case_atom, is_convex, is_empty, read_applications, read_at, read_case, read_clause, placed, read_functions, read_guard, read_head, read_owned, read_rows, rule_words, with_case, with_monotone};
+ghost use Rattle.hp_rules.specs.Rules.{broken, is_case_atom, is_convex, is_empty, read_applications, read_at, read_case, read_clause, placed, read_guard, read_head, read_nums, read_owned, read_rows, rule_words, with_case, with_monotone};
 
+use crate::arrays::{are_array_applications, read_level};
 use crate::branches::with_case;
 use crate::rows::{rows_of, rule_words};
 use crate::ruled::{CaseClause, RuleErr, Ruled};
@@ -25,14 +27,15 @@ use hp_pairs::Outside;
 use hp_tree::{Atom, Cmp};
 use std::alloc::{AllocError, Global};
 
-/// What flat clauses are, in the order of the text: monotone clauses and those of cases. The first clause that breaks a rule
-/// comes with the first rule that it breaks:
+/// What flat clauses are, in the order of the text: monotone clauses, those of cases, and those over arrays. The first clause
+/// that breaks a rule comes with the first rule that it breaks:
 ///
 /// 1. An application is left in it.
-/// 3. Its functions are of num to num.
+/// 2. Arrays in it are on one level.
+/// 3. Its functions are all of num to num, or all arrays, which are of idx to num with one argument.
 /// 4. A function with a clause of monotone shape is in no second one.
 ///
-/// A clause of another shape is one of a case.
+/// A clause over functions of num to num that has another shape is one of a case.
 ///
 /// 5. It has one application, whose arguments are variables or have none. Its variables are num, and are those that are
 ///    arguments.
@@ -42,10 +45,17 @@ use std::alloc::{AllocError, Global};
 ///    `=` being both. Where two clauses give these, upper minus lower can be computed with numbers up to 2^127 - 1. The later
 ///    clause breaks it.
 ///
-/// All functions of a clause count as its own: lower ones are not told from them so far. An application of more than 255
-/// arguments, which no problem has, counts as want of memory.
+/// A clause over arrays:
+///
+/// 10. Its variables are indexes, and atoms between indexes in which one occurs stand in the guard and bound it
+///     (`hp_index_set::has_index_guards`).
+/// 11. Its applications are at variables, and no atom is between pointers (`hp_index_set::reads_at_variables`).
+///
+/// All functions of num to num in a clause count as its own: lower ones are not told from them so far. An application of more
+/// than 255 arguments, which no problem has, counts as want of memory.
 pub fn rules(alloc: Global, names: &Names, clauses: &[FlatClause]) -> Result<Ruled, RuleErr>
     requires constants { HasPlainConstants names.now }
+    requires flat { All (IsFlat names.now) clauses.now }
     ensures { RuledAs names.now clauses.now result }
 {
     let words = rule_words(alloc, names)?;
@@ -54,6 +64,7 @@ pub fn rules(alloc: Global, names: &Names, clauses: &[FlatClause]) -> Result<Rul
         owned: List::new(alloc),
         branches: List::new(alloc),
         clauses: List::new(alloc),
+        arrays: List::new(alloc),
     };
     for clause in clauses {
         read_clause(
@@ -79,6 +90,7 @@ fn read_clause(
 ) -> Result<(), RuleErr>
     requires words { words.now ≡ rule_words names.now }
     requires few { length words.now < 2 ^ 28 }
+    requires flat { IsFlat names.now clause.now }
     ensures { RuledTo (read_clause names.now monotone.now ruled.old clause.now) ruled.new result }
 {
     let apps = clause_applications(alloc, clause)?;
@@ -93,7 +105,7 @@ fn read_clause(
     )
 }
 
-/// Rule 1, of a clause with these applications.
+/// Rules 1 and 3, of a clause with these applications.
 fn read_applications(
     alloc: Global,
     names: &Names,
@@ -106,17 +118,22 @@ fn read_applications(
     requires words { words.now ≡ rule_words names.now }
     requires few { length words.now < 2 ^ 28 }
     requires apps { apps.now ≡ clause_applications clause.now }
+    requires flat { IsFlat names.now clause.now }
     ensures { RuledTo (read_applications names.now monotone.now ruled.old clause.now apps.now) ruled.new result }
 {
     if apps.len() == 0 {
         Err(broken(alloc, clause.clause, 1))
+    } else if are_num_functions(names, apps) {
+        read_nums(alloc, names, words, monotone, ruled, clause, apps)
+    } else if are_array_applications(names, apps) {
+        read_level(alloc, names, ruled, clause, apps, &apps[0])
     } else {
-        read_functions(alloc, names, words, monotone, ruled, clause, apps)
+        Err(broken(alloc, clause.clause, 3))
     }
 }
 
-/// Rules 3 and 4.
-fn read_functions(
+/// Rule 4, of a clause over functions of num to num.
+fn read_nums(
     alloc: Global,
     names: &Names,
     words: &NameIndex,
@@ -128,11 +145,8 @@ fn read_functions(
     requires words { words.now ≡ rule_words names.now }
     requires few { length words.now < 2 ^ 28 }
     requires apps { apps.now ≡ clause_applications clause.now }
-    ensures { RuledTo (read_functions names.now monotone.now ruled.old clause.now apps.now) ruled.new result }
+    ensures { RuledTo (read_nums names.now monotone.now ruled.old clause.now apps.now) ruled.new result }
 {
-    if !are_num_functions(names, apps) {
-        return Err(broken(alloc, clause.clause, 3));
-    }
     if is_any_taken(names, monotone, ruled.owned.as_slice(), apps) {
         return Err(broken(alloc, clause.clause, 4));
     }
@@ -378,7 +392,7 @@ fn place(
 }
 
 /// That a clause breaks a rule alone.
-fn broken(alloc: Global, clause: u32, rule: u8) -> RuleErr
+pub fn broken(alloc: Global, clause: u32, rule: u8) -> RuleErr
     ensures { result ≡ broken clause rule }
 {
     RuleErr::Outside(Outside {

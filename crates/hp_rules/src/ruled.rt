@@ -14,15 +14,27 @@ pub struct CaseClause {
     pub clause: FlatClause,
 }
 
+/// A clause over arrays.
+#[derive(Drop)]
+pub struct ArrayClause {
+    /// The level of its arrays.
+    pub level: u64,
+    /// The function of each of its applications, by its place in the order of declarations, counted from 0.
+    pub funcs: List<u32>,
+    pub clause: FlatClause,
+}
+
 /// Clauses that keep the rules.
 #[derive(Drop)]
 pub struct Ruled {
-    /// The own function of each clause, by its place in the order of declarations, counted from 0.
+    /// The own function of each clause over functions of num to num, by its place in the order of declarations, counted from 0.
     pub owned: List<u32>,
     /// The cases of all functions, in the order of their first clauses.
     pub branches: List<Branch>,
     /// The clauses of cases, in the order of the text.
     pub clauses: List<CaseClause>,
+    /// The clauses over arrays, in the order of the text.
+    pub arrays: List<ArrayClause>,
 }
 
 /// Why clauses can't be taken.

@@ -112,22 +112,22 @@ const REFUSALS: [Run; 22] = [
     (
         "solve",
         "const i: idx; clause [x:idx] x < i;",
-        13,
-        "not built\n",
+        7,
+        "outside clause 1 rule 1\n",
     ),
     ("solve", "clause [p:ptr] p = null;", 13, "not built\n"),
     (
         "solve",
-        "fun a(idx): num level 1; clause [i:idx] a(i) = 0; query a(1) < 0;",
+        "fun a(ptr): num level 1; fun f(num): num level 1; clause [x:num] f(a(null) + x) = 0; clause [x:num, p:ptr] a(p) = x;",
         13,
         "not built\n",
     ),
-    // a function of monotone shape is that of one clause alone, the second one counts; an index in a signature isn't decided yet
+    // a function of monotone shape is that of one clause alone, the second one counts
     (
         "solve",
         "fun p(num): idx level 1; clause [x:num, y:num] x <= y -> p(x) <= p(y);",
-        13,
-        "not built\n",
+        7,
+        "outside clause 1 rule 3\n",
     ),
     (
         "solve",

@@ -50,9 +50,9 @@ const RUNS: [Run; 11] = [
         7,
         "outside clause 2 rule 4\n",
     ),
-    // forms that wait for their class come before all rules: an index in a signature, and two levels
+    // forms that wait for their class come before all rules: a pointer in a signature, and two levels
     (
-        "fun p(num): idx level 1; fun f(num): num level 1; clause [x:num] f(x) < 0; clause [x:num, y:num] x <= y -> p(x) <= p(y);",
+        "fun p(num): ptr level 1; fun f(num): num level 1; clause [x:num] f(x) < 0; clause [x:num] p(x) = null;",
         13,
         "not built\n",
     ),

@@ -1,7 +1,7 @@
--- Which problems are of a form that isn't decided so far: with indexes or pointers in clauses with variables, or with applications
--- of several levels in them.
+-- Which problems are of a form that isn't decided so far: with pointers in clauses with variables, or with applications of several
+-- levels in them.
 use Rattle.std.specs.Prelude.{ℕ, List, [], ◌∷◌, ◌++◌, Bool, true, false, ◌&&◌, ◌||◌, not, nat_eq, if◌then◌else◌, Option, Some, None, option_and_then, position, slice_get}
-use Rattle.std.specs.List.{list_all, list_any, flat_map}
+use Rattle.std.specs.List.{list_any, flat_map}
 use Rattle.std.specs.Str.{bytes_eq}
 use Rattle.hp_names.specs.Names.{is_among}
 use Rattle.hp_tree.specs.declared.term.Term.{Term}
@@ -20,15 +20,15 @@ use Rattle.hp_norm.specs.Opening.{mentions}
 use Rattle.hp_norm.specs.Trees.{by_term}
 use Rattle.hp_waiting.specs.declared.functions.Function.{Function}
 
-abbrev pub is_num : Sort → Bool
-is_num sort.Num = true
-is_num sort.Idx = false
-is_num sort.Ptr = false
+abbrev pub is_ptr : Sort → Bool
+is_ptr sort.Num = false
+is_ptr sort.Idx = false
+is_ptr sort.Ptr = true
 
 -- ---- declared functions
--- whether a function is of num to num, and its level
+-- whether a function takes or gives a pointer, and its level
 abbrev pub function_of : List Sort → Sort → ℕ → Function
-function_of args result level = record { num = list_all is_num args && is_num result; level = level }
+function_of args result level = record { pointer = list_any is_ptr args || is_ptr result; level = level }
 
 -- the words of functions, the first declaration of each, and the functions in their order
 abbrev pub with_function : List Word → Decl → List Word
@@ -72,28 +72,29 @@ abbrev pub clause_functions : Clause → List Word
 clause_functions clause = flat_map (atom_functions clause.vars) clause.guard ++ flat_map (atom_functions clause.vars) clause.head
 
 -- ---- problems
-abbrev pub has_other_variable : Clause → Bool
-has_other_variable clause = list_any (λ v. not (is_num v.sort)) clause.vars
+abbrev pub has_pointer_variable : Clause → Bool
+has_pointer_variable clause = list_any (λ v. is_ptr v.sort) clause.vars
 
--- of num to num, on this level where one is given
+-- on this level where one is given
 abbrev pub fits_level : Option ℕ → ℕ → Bool
 fits_level None level = true
 fits_level (Some other) level = nat_eq other level
 
+-- without pointers, and on this level
 abbrev pub is_at : Option ℕ → Option Function → Bool
 is_at level None = false
-is_at level (Some function) = function.num && fits_level level function.level
+is_at level (Some function) = not function.pointer && fits_level level function.level
 
 abbrev pub level_of : Option Function → Option ℕ
 level_of None = None
 level_of (Some function) = Some function.level
 
--- all functions are of num to num, and on one level
+-- all functions are without pointers, and on one level
 abbrev pub are_level : List Decl → Option ℕ → List Word → Bool
 are_level decls level [] = true
 are_level decls level (word ∷ words) = is_at level (function_named decls word) && are_level decls (level_of (function_named decls word)) words
 
--- a clause has a variable of sort idx or ptr, or an application with a variable in it has one of these in its signature, or two such
--- applications have different levels
+-- a clause has a variable of sort ptr, or an application with a variable in it has this in its signature, or two such applications have
+-- different levels
 abbrev pub is_waiting : Problem → Bool
-is_waiting p = list_any has_other_variable p.clauses || not (are_level p.decls None (flat_map clause_functions p.clauses))
+is_waiting p = list_any has_pointer_variable p.clauses || not (are_level p.decls None (flat_map clause_functions p.clauses))

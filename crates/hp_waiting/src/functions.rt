@@ -1,19 +1,19 @@
-//! The declared functions, as far as the form of clauses goes: which take and give values of sort num only, and their levels.
+//! The declared functions, as far as the form of clauses goes: which take or give pointers, and their levels.
 
 ghost use Rattle.std.specs.Prelude.{◌≡◌, [], option_and_then, position, slice_get, IfOk, OnOk};
-ghost use Rattle.std.specs.List.{list_all};
+ghost use Rattle.std.specs.List.{list_any};
 ghost use Rattle.std.specs.Str.{bytes_eq};
-ghost use Rattle.hp_waiting.specs.Waiting.{also_function, function_of, functions_from, is_num, with_function, words_from};
+ghost use Rattle.hp_waiting.specs.Waiting.{also_function, function_of, functions_from, is_ptr, with_function, words_from};
 
 use hp_names::NameIndex;
 use hp_num::List;
 use hp_tree::{Decl, Sort};
 use std::alloc::{AllocError, Global};
 
-/// Whether a function is of num to num, and its level.
+/// Whether a function takes or gives a pointer, and its level.
 #[derive(Clone, Copy, Debug, Drop)]
 pub struct Function {
-    pub num: bool,
+    pub pointer: bool,
     pub level: u64,
 }
 
@@ -70,30 +70,25 @@ fn function_of(args: &[Sort], value: Sort, level: u64) -> Function
     ensures { result ≡ function_of args.now value level }
 {
     Function {
-        num: are_num(args) && is_num(value),
+        pointer: has_pointer(args) || is_ptr(value),
         level,
     }
 }
 
-/// Whether all of these sorts are num.
-fn are_num(sorts: &[Sort]) -> bool
-    ensures { result ≡ list_all is_num sorts.now }
+/// Whether one of these sorts is ptr.
+fn has_pointer(sorts: &[Sort]) -> bool
+    ensures { result ≡ list_any is_ptr sorts.now }
 {
-    for sort in sorts {
-        if !is_num(*sort) {
-            return false;
-        }
-    }
-    true
+    sorts.iter().any(|sort| is_ptr(*sort))
 }
 
-/// Whether a sort is num.
-pub fn is_num(sort: Sort) -> bool
-    ensures { result ≡ is_num sort }
+/// Whether a sort is ptr.
+pub fn is_ptr(sort: Sort) -> bool
+    ensures { result ≡ is_ptr sort }
 {
     match sort {
-        Sort::Num => true,
-        Sort::Idx | Sort::Ptr => false,
+        Sort::Ptr => true,
+        Sort::Num | Sort::Idx => false,
     }
 }
 

@@ -1,22 +1,22 @@
 //! The form of the clauses with variables.
 
-ghost use Rattle.std.specs.Prelude.{◌≡◌, None, not, IfOk};
+ghost use Rattle.std.specs.Prelude.{◌≡◌, None, IfOk};
 ghost use Rattle.std.specs.List.{list_any};
-ghost use Rattle.hp_waiting.specs.Waiting.{are_level, fits_level, has_other_variable, is_at, is_num, is_waiting, level_of};
+ghost use Rattle.hp_waiting.specs.Waiting.{are_level, fits_level, has_pointer_variable, is_at, is_ptr, is_waiting, level_of};
 
 use crate::applications::add_clauses;
-use crate::functions::{Function, declared_functions, function_named, is_num};
+use crate::functions::{Function, declared_functions, function_named, is_ptr};
 use hp_num::{List, Text};
 use hp_tree::{Clause, Decl, Problem, Var};
 use std::alloc::{AllocError, Global};
 
-/// Whether a problem is of a form that isn't decided so far: a clause has a variable of sort idx or ptr, an application with a
-/// variable in it has one of these sorts in its signature, or two such applications have functions of different levels. `Err`
-/// says that memory was wanting.
+/// Whether a problem is of a form that isn't decided so far: a clause has a variable of sort ptr, an application with a variable
+/// in it has this sort in its signature, or two such applications have functions of different levels. `Err` says that memory
+/// was wanting.
 pub fn is_waiting(alloc: Global, p: &Problem) -> Result<bool, AllocError>
     ensures { IfOk result (λ waits. waits ≡ is_waiting p.now) }
 {
-    if have_other_variable(p.clauses.as_slice()) {
+    if have_pointer_variable(p.clauses.as_slice()) {
         return Ok(true);
     }
     let mut words = List::new(alloc);
@@ -25,31 +25,23 @@ pub fn is_waiting(alloc: Global, p: &Problem) -> Result<bool, AllocError>
     Ok(!level)
 }
 
-/// Whether a clause has a variable of sort idx or ptr.
-fn have_other_variable(clauses: &[Clause]) -> bool
-    ensures { result ≡ list_any has_other_variable clauses.now }
+/// Whether a clause has a variable of sort ptr.
+fn have_pointer_variable(clauses: &[Clause]) -> bool
+    ensures { result ≡ list_any has_pointer_variable clauses.now }
 {
-    for clause in clauses {
-        if has_other(clause.vars.as_slice()) {
-            return true;
-        }
-    }
-    false
+    clauses
+        .iter()
+        .any(|clause| has_pointer(clause.vars.as_slice()))
 }
 
-/// Whether one of these variables is of sort idx or ptr.
-fn has_other(vars: &[Var]) -> bool
-    ensures { result ≡ list_any (λ v. not (is_num v.sort)) vars.now }
+/// Whether one of these variables is of sort ptr.
+fn has_pointer(vars: &[Var]) -> bool
+    ensures { result ≡ list_any (λ v. is_ptr v.sort) vars.now }
 {
-    for var in vars {
-        if !is_num(var.sort) {
-            return true;
-        }
-    }
-    false
+    vars.iter().any(|var| is_ptr(var.sort))
 }
 
-/// Whether the functions of these words are all declared, of num to num, and on one level.
+/// Whether the functions of these words are all declared, without pointers, and on one level.
 fn are_level(alloc: Global, decls: &[Decl], words: &[Text]) -> Result<bool, AllocError>
     ensures { IfOk result (λ level. level ≡ are_level decls.now None words.now) }
 {
@@ -65,13 +57,13 @@ fn are_level(alloc: Global, decls: &[Decl], words: &[Text]) -> Result<bool, Allo
     Ok(true)
 }
 
-/// Whether there is a function, it is of num to num, and on this level where one is given.
+/// Whether there is a function, it takes and gives no pointer, and it is on this level where one is given.
 fn is_at(level: Option<u64>, function: Option<Function>) -> bool
     ensures { result ≡ is_at level function }
 {
     match function {
         None => false,
-        Some(function) => function.num && fits_level(level, function.level),
+        Some(function) => !function.pointer && fits_level(level, function.level),
     }
 }
 

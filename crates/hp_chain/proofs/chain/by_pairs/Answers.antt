@@ -1,4 +1,4 @@
-use Rattle.std.proofs.Common.{◌≡◌, ◌<◌, ◌∙◌, ◌++◌, ℕ, List, Err, length, ap, arith, subst, sym}
+use Rattle.std.proofs.Common.{◌∙◌, List, Err, length, ap, arith, subst, sym}
 use Rattle.std.specs.List.{All}
 use Rattle.hp_defs.specs.Names.{count}
 use Rattle.hp_pairs.specs.declared.branch.Branch.{Branch}

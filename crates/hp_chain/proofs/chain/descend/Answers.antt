@@ -4,14 +4,14 @@ use Rattle.hp_base.specs.Making.{Makes}
 use Rattle.hp_groups.specs.declared.group.Group.{Group}
 use Rattle.hp_groups.specs.contracts.group.GroupLocalClass.TheImpl.{ghosts}
 use Rattle.hp_groups.specs.Groups.{groups_made}
-use Rattle.hp_chain.proofs.Chained.{by_groups, chain_lent, is_flattened, readable}
+use Rattle.hp_chain.proofs.Chained.{by_groups, chain_lent, is_flattened}
 use Rattle.hp_chain.proofs.chain.descend.Goals as goal
 
 pub descend_groups-requires-clause-lent : goal.descend_groups-requires-clause-lent
 descend_groups-requires-clause-lent c =
     let chain = c.requires.chain in
     subst (λ (groups : List Group). All (λ k. ghosts.IsLent k c.args.ground.names) groups) (sym (c.as_slice.ensures ∙ chain.groups))
-    (chain_lent c.args.p.now (chain.read, c.args.ground) (readable c.args.p.now chain.read c.args.ground c.requires.able c.requires.limits chain.taken c.requires.plain))
+    (chain_lent c.args.p.now (chain.read, c.args.ground) c.requires.able c.requires.limits chain.taken c.requires.plain)
 
 pub descend_groups-requires-clause-sound : goal.descend_groups-requires-clause-sound
 descend_groups-requires-clause-sound c =

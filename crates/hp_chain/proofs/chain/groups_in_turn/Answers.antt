@@ -3,7 +3,8 @@ use Rattle.std.specs.List.{All}
 use Rattle.hp_norm.specs.declared.flat.FlatClause.{FlatClause}
 use Rattle.hp_ruled.specs.Laws.{AreRuled}
 use Rattle.hp_chain.specs.Order.{places_below}
-use Rattle.hp_chain.proofs.Chained.{are_ruled, order_known}
+use Rattle.hp_groups.specs.Laws.{IsWhole}
+use Rattle.hp_chain.proofs.Chained.{are_ruled, order_known, order_whole}
 use Rattle.hp_chain.proofs.Levels.{levels_few}
 use Rattle.hp_chain.proofs.chain.groups_in_turn.Goals as goal
 
@@ -24,3 +25,9 @@ groups-requires-clause-known c =
     let flat = c.args.flat.now in
     subst (λ (ks : List ℕ). All (λ k. k < length flat.ground.names.signatures) ks) (sym (c.as_slice-2.ensures ∙ c.in_ok-order.ensures ∙ ap (λ ls. places_below 16 ls) c.requires.levels))
     (order_known c.args.p.now flat.clauses flat.ground c.requires.able c.requires.limits c.requires.taken.named)
+
+pub groups-requires-clause-whole : goal.groups-requires-clause-whole
+groups-requires-clause-whole c =
+    let flat = c.args.flat.now in
+    subst (λ (ks : List ℕ). IsWhole flat.ground.names.signatures ks) (sym (c.as_slice-2.ensures ∙ c.in_ok-order.ensures ∙ ap (λ ls. places_below 16 ls) c.requires.levels))
+    (order_whole c.args.p.now flat.clauses flat.ground c.requires.able c.requires.limits c.requires.taken.named)

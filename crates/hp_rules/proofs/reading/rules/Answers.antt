@@ -3,7 +3,7 @@ use Rattle.hp_rules.proofs.ClausesRead.{behind_end, behind_more, behind_refused,
 use Rattle.hp_rules.proofs.reading.rules.Goals as goal
 
 pub loop-clause-init : goal.loop-clause-init
-loop-clause-init c = record { behind = behind_start c.args.names.now c.args.clauses.now _ (λ i. record { owned = c.new.ensures i; branches = c.new-2.ensures i; clauses = c.new-3.ensures i }) }
+loop-clause-init c = record { behind = behind_start c.args.names.now c.args.clauses.now _ (λ i. record { owned = c.new.ensures i; branches = c.new-2.ensures i; clauses = c.new-3.ensures i; arrays = c.new-4.ensures i }) }
 
 pub loop-clause-preserved : goal.loop-clause-preserved
 loop-clause-preserved c = record {

@@ -1,5 +1,5 @@
 use Rattle.std.proofs.Common.{◌≡◌, take}
-use Rattle.hp_groups.proofs.copies.copy_vars.Given as goal
+use Rattle.hp_rules.proofs.copies.copy_vars.Given as goal
 
 abbrev pub invariant-loop-var : goal.invariant-loop-var
 invariant-loop-var l = l.copies ≡ take l.var-index l.vars
