@@ -152,6 +152,32 @@ def by_cases(count, last):
     return lines + ["query 0 <= d;", f"query d < {count};", last]
 
 
+def two_arrays(count, last):
+    """Two arrays that rise, at constants that nothing orders."""
+    names = [f"c{n}" for n in range(count)]
+    lines = [f"const {', '.join(names)}: idx;", "fun a(idx): num level 1;", "fun b(idx): num level 1;"]
+    lines += [f"clause [i:idx, j:idx] i <= j -> {f}(i) <= {f}(j);" for f in "ab"]
+    return lines + [f"query a({name}) >= 0;" for name in names] + [last]
+
+
+def moved(count, apart):
+    """An array with steps of 1 at constants in a row, and a copy of it but for one element, which is moved by less, or by more."""
+    names = [f"c{n}" for n in range(count)]
+    at = names[count // 2]
+    lines = [f"const {', '.join(names)}: idx;", "fun a(idx): num level 1;", "fun b(idx): num level 1;"]
+    lines += [f"clause [i:idx] i {relation} {at} -> b(i) = a(i);" for relation in "<>"]
+    lines += [f"query {left} < {right};" for left, right in zip(names, names[1:])]
+    lines += [f"query a({left}) + 1 <= a({right});" for left, right in zip(names, names[1:])]
+    lines += [f"query b({at}) = a({at}) + {apart};"]
+    return lines + ["query " + " | ".join(f"b({right}) < b({left})" for left, right in zip(names, names[1:])) + ";"]
+
+
+def many_tuples(count):
+    """A clause of three variables over so many elements."""
+    clause = "clause [i:idx, j:idx, k:idx] i <= j & j <= k -> a(j) <= a(i) + a(k);"
+    return ["fun a(idx): num level 1;", clause] + [f"query a({n}) = 0;" for n in range(count)]
+
+
 def function_chain(count):
     """Each constant is a function of the one before, the first two are equal, and the last is another."""
     names = ", ".join(f"c{at}" for at in range(count + 1))
@@ -203,6 +229,14 @@ def main():
     for count in (20, 60, 200):
         write(f"cases-{count}.hp", by_cases(count, f"query f(d) > {count - 2};"))
         write(f"cases-{count}-late.hp", by_cases(count, "query f(d) > d;"))
+    for count in (16, 64):
+        write(f"arrays-{count}.hp", two_arrays(count, "query 1 < 0;"))
+        write(f"arrays-{count}-open.hp", two_arrays(count, "query 0 < 1;"))
+    for count in (4, 8, 16):
+        write(f"moved-{count}.hp", moved(count, "1/2"))
+        write(f"moved-{count}-far.hp", moved(count, "3/2"))
+    write("tuples-36.hp", many_tuples(36))
+    write("tuples-37.hp", many_tuples(37))
     for jobs in (4, 5, 6, 7):
         write(f"machine-{jobs}-fits.hp", one_machine(rng, jobs, 0))
         write(f"machine-{jobs}-late.hp", one_machine(rng, jobs, -1))
