@@ -2,6 +2,7 @@
 //! other, until a line has no case left.
 //!
 //! Only the order in which lines are split hangs on what is found, so nothing is proved of it.
+use crate::bounds::{Bounds, judge_by_bounds};
 use crate::classes::{Classes, Standing, classes_of, join, judge, way};
 use crate::gaps::{gap_of, link_of};
 use crate::literals::lits_of;
@@ -72,11 +73,20 @@ fn left_of(classes: &Classes, lits: &[Lit]) -> Left {
     left
 }
 
-/// How many of its cases classes leave of a line, 0 also where one of them is true.
-pub fn cases_left(classes: &Classes, lits: &[Lit]) -> usize {
+/// What classes make of a literal, and bounds where these leave it open.
+fn judge_whole(classes: &Classes, bounds: &Bounds, lit: &Lit) -> Standing {
+    match judge_lit(classes, lit) {
+        Standing::Open => judge_by_bounds(bounds, classes, lit),
+        Standing::True => Standing::True,
+        Standing::False => Standing::False,
+    }
+}
+
+/// How many of its cases classes and bounds leave of a line, 0 also where one of them is true.
+pub fn cases_left(classes: &Classes, bounds: &Bounds, lits: &[Lit]) -> usize {
     let mut count = 0usize;
     for lit in lits {
-        match judge_lit(classes, lit) {
+        match judge_whole(classes, bounds, lit) {
             Standing::True => return 0,
             Standing::False => {}
             Standing::Open => count = count.saturating_add(1),

@@ -3,6 +3,7 @@
 #![tactic(auto)]
 
 mod ahead;
+mod bounds;
 mod classes;
 mod following;
 mod gaps;

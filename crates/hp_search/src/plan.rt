@@ -1,4 +1,5 @@
 //! What is known at a place of the order in which lines are to be split.
+use crate::bounds::{Bounds, bounds_at};
 use crate::classes::Classes;
 use crate::following::{Followed, cases_left, follow};
 use crate::gaps::link_of;
@@ -92,11 +93,16 @@ fn is_on(plan: &Plan, path: &[Choice]) -> bool {
     last.line == plan.last.line && last.lit == plan.last.lit
 }
 
-/// How many cases classes leave of each line.
-fn counts_by(alloc: Global, classes: &Classes, lines: &[Line]) -> Result<List<usize>, AllocError> {
+/// How many cases classes and bounds leave of each line.
+fn counts_by(
+    alloc: Global,
+    classes: &Classes,
+    bounds: &Bounds,
+    lines: &[Line],
+) -> Result<List<usize>, AllocError> {
     let mut counts = List::new(alloc);
     for line in lines {
-        counts.push(cases_left(classes, line.lits.as_slice()))?;
+        counts.push(cases_left(classes, bounds, line.lits.as_slice()))?;
     }
     Ok(counts)
 }
@@ -123,7 +129,8 @@ pub fn renew(
         }
         Followed::Classes(classes) => {
             plan.lines = List::new(alloc);
-            plan.counts = counts_by(alloc, &classes, lines)?;
+            let bounds = bounds_at(alloc, names, &classes, lines, path)?;
+            plan.counts = counts_by(alloc, &classes, &bounds, lines)?;
             Ok(Some(classes))
         }
     }

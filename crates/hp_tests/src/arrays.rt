@@ -262,3 +262,15 @@ fn many_instances(rt: HostRuntime) -> Result<(), Fail> {
     assert!(rt; written.as_slice() == b"limit lines 50000\n".as_slice());
     Ok(())
 }
+
+/// An array in a row of constants, and a copy of it in which one element is moved by less than the steps are.
+const MOVED: &str =
+    "const c0, c1, c2, c3, c4, c5: idx; fun a(idx): num level 1; fun b(idx): num level 1; clause [i:idx] i < c3 -> b(i) = a(i); clause [i:idx] i > c3 -> b(i) = a(i); query c0 < c1; query c1 < c2; query c2 < c3; query c3 < c4; query c4 < c5; query a(c0) + 1 <= a(c1); query a(c1) + 1 <= a(c2); query a(c2) + 1 <= a(c3); query a(c3) + 1 <= a(c4); query a(c4) + 1 <= a(c5); query b(c3) = a(c3) + 1/2; query b(c1) < b(c0) | b(c2) < b(c1) | b(c3) < b(c2) | b(c4) < b(c3) | b(c5) < b(c4);";
+
+/// Cases that inequalities alone make dead cost few nodes.
+#[test]
+fn few_nodes(rt: HostRuntime) -> Result<(), Fail> {
+    let (found, _) = answer(rt.alloc(), "solve --nodes 200", MOVED.as_bytes())?;
+    assert_eq!(rt; found, 20);
+    Ok(())
+}
