@@ -26,23 +26,27 @@ use Rattle.hp_local.specs.Substitution.{substitute, substitute_atom}
 use Rattle.hp_local.proofs.Cases.{cases_complete}
 use Rattle.hp_local.proofs.Folds.{substitutes_have_values, substitutes_keep_guards}
 use Rattle.hp_local.proofs.Lists.{All-by, contains_first, contains_map, map_contains}
+use Rattle.hp_defs.proofs.Growing.{begins_through}
 use Rattle.hp_base.specs.Congruence.{Point}
+use Rattle.hp_base.proofs.Making.{begins_names}
 use Rattle.hp_base.specs.Values.{arg_value, arg_values}
 use Rattle.hp_norm.specs.declared.flat.FlatClause.{FlatClause}
 use Rattle.hp_norm.specs.Flat.{universal_of}
 use Rattle.hp_instance.specs.declared.tuple.Tuple.{Tuple}
 use Rattle.hp_instance.specs.Laws.{ArgumentsComeBack}
-use Rattle.hp_class.specs.Frame.{fact_of, facts_of, frame_at, is_function, signature_word}
+use Rattle.hp_class.specs.Frame.{fact_of, facts_of, frame_at, is_function, is_place}
 use Rattle.hp_class.specs.Group.{Planned, group_lines}
 use Rattle.hp_class.specs.Law.{IsModelled, PlannedIsTrue, group_at}
 use Rattle.hp_class.specs.Points.{points}
 use Rattle.hp_class.proofs.Facts.{own_facts_are_points}
 use Rattle.hp_class.proofs.Points.{are_points}
+use Rattle.hp_class.proofs.PointsStay.{points_stay}
 use Rattle.hp_cases.specs.declared.case.Case.{Case}
 use Rattle.hp_cases.specs.Cases.{AreApart as are_apart, AreDisjoint as are_disjoint, IsByCases, IsCaseClause, IsInOrder as is_in_order, cases_plan, cases_tables, point_tuple, table_bound, table_case, word_term}
 use Rattle.hp_cases.proofs.Fitting.{zip_length}
-use Rattle.hp_cases.proofs.Kept.{cases_kept}
-use Rattle.hp_cases.proofs.Laws.{cases_stay}
+use Rattle.hp_cases.proofs.Functions.{other_word}
+use Rattle.hp_cases.proofs.Grows.{cases_grow}
+use Rattle.hp_cases.proofs.Laws.{cases_stay, with_own}
 use Rattle.hp_cases.proofs.Says.{case_says}
 
 -- ---- one function
@@ -52,8 +56,7 @@ alone false h = h
 
 -- the function of a group of one
 owned : (names : NameList) (func : ℕ) (s : Signature) → slice_get names.signatures func ≡ Some s → (word : Word) → IsTrue (is_function names (func ∷ []) word) → IsTrue (bytes_eq s.name word)
-owned names func s known word h =
-    alone (bytes_eq s.name word) (subst (λ (o : Option Signature). IsTrue (list_any (λ (f : Word). bytes_eq f word) (signature_word o ++ []))) known h)
+owned names func s known word h = alone (bytes_eq s.name word) (subst (λ b. IsTrue b) (with_own names func s [] known word) h)
 
 completes_as : (frame : Frame) (clauses : List Universal) (tables : List Table) (applied own other : Word → Bool) → ((word : Word) → IsTrue (other word) → IsTrue (own word))
     → Completes frame applied (record { own = own; clauses = clauses; tables = tables }) → Completes frame applied (record { own = other; clauses = clauses; tables = tables })
@@ -125,8 +128,8 @@ module _ (names : NameList) (made : IsMade names) (fit : IsFitNames names) (func
       let is = are_points names made fit func s known w.0 w.1 in
       ap (λ (z : Fact). length z.args) (sym w.2) ∙ map_length (arg_value v) w.0.args ∙ zip_length (ArgFits (sorts names)) s.args w.0.args is.args
 
-  module _ (early : NameList) (points_are : points func names.definitions ≡ points func early.definitions) (clauses : List FlatClause)
-      (instances : All (PlannedIsTrue (func ∷ []) size names v) (cases_plan func clauses early)) where
+  module _ (early : NameList) (points_are : points func names.definitions ≡ points func early.definitions) (clauses : List FlatClause) (applied : List ℕ)
+      (instances : All (PlannedIsTrue (func ∷ applied) size names v) (cases_plan func clauses early)) where
     abbrev frame : Frame
     frame = frame_at size names v
 
@@ -134,62 +137,59 @@ module _ (names : NameList) (made : IsMade names) (fit : IsFitNames names) (func
     planned c = record { clause = c; tuples = map point_tuple (points func early.definitions) }
 
     abbrev Holds : FlatClause → Tuple → Type 0
-    Holds c t = IsTrueWithPoints frame (is_function names (func ∷ [])) (universal_of c) (arg_values v t.args)
+    Holds c t = IsTrueWithPoints frame (is_function names (func ∷ applied)) (universal_of c) (arg_values v t.args)
 
-    at_point : (c : FlatClause) → Contains clauses c → (p : Point) → Contains (points func early.definitions) p → IsTrueWithPoints frame (is_function names (func ∷ [])) (universal_of c) (arg_values v p.args)
+    at_point : (c : FlatClause) → Contains clauses c → (p : Point) → Contains (points func early.definitions) p → IsTrueWithPoints frame (is_function names (func ∷ applied)) (universal_of c) (arg_values v p.args)
     at_point c m p n =
         All-contains (Holds c) (map point_tuple (points func early.definitions)) (point_tuple p)
-        (All-contains (PlannedIsTrue (func ∷ []) size names v) (map planned clauses) (planned c) instances (contains_map planned clauses c m))
+        (All-contains (PlannedIsTrue (func ∷ applied) size names v) (map planned clauses) (planned c) instances (contains_map planned clauses c m))
         (contains_map point_tuple (points func early.definitions) p n)
 
-    points_are_true : (c : FlatClause) → Contains clauses c → PointsAreTrue frame s.name (is_function names []) (universal_of c)
+    points_are_true : (c : FlatClause) → Contains clauses c → PointsAreTrue frame s.name (is_function names applied) (universal_of c)
     points_are_true c m k n functions have =
         let w = point_of_fact k n in
         let here = at_point c m w.0 (subst (λ (ps : List Point). Contains ps w.0) points_are w.1) in
-        let there = subst (λ (xs : List ℚ). IsTrueWithPoints frame (is_function names (func ∷ [])) (universal_of c) xs) (ap (λ (z : Fact). z.args) w.2) here in
-        there functions (λ j i o. have j i (or_first (bytes_eq s.name j.func) (owned names func s known j.func o)))
-      where
-        or_first : (b : Bool) → IsTrue b → IsTrue (b || false)
-        or_first true h = h
-        or_first false h = h
+        let there = subst (λ (xs : List ℚ). IsTrueWithPoints frame (is_function names (func ∷ applied)) (universal_of c) xs) (ap (λ (z : Fact). z.args) w.2) here in
+        there functions (λ j i o. have j i (subst (λ b. IsTrue b) (with_own names func s applied known j.func) o))
 
 -- ---- the law
 pub cases_complete_at : (back : ArgumentsComeBack) (size : ℕ) (done : Unit {0}) (start next : Ground) (names : NameList) (v : Values)
-    (func : ℕ) (word : Word) (count : ℕ) (clauses : List FlatClause) (cases : List Case) (own : List ℕ) → IsByCases start.names func word count clauses cases own
-    → group_lines own (cases_plan func clauses) start ≡ Ok (done, next) → IsModelled own [] (cases_plan func clauses start.names) size start next names v
-    → Completes (frame_at size names v) (is_function names []) (group_at names own clauses (cases_tables func word count cases names v))
-cases_complete_at back size done start next names v func word count clauses cases own lent e m =
-    let kept : next.names ≡ start.names = cases_kept back start next func word count clauses cases own done lent m.sound e in
-    let begins : BeginsNames start.names names = subst (λ (n : NameList). BeginsNames n names) kept m.begins in
-    let still = cases_stay start.names names func word count clauses cases own lent begins m.made in
+    (func : ℕ) (word : Word) (count : ℕ) (clauses : List FlatClause) (cases : List Case) (applied own : List ℕ) → IsByCases start.names func word count clauses cases applied own
+    → group_lines own (cases_plan func clauses) start ≡ Ok (done, next) → IsModelled own applied (cases_plan func clauses start.names) size start next names v
+    → Completes (frame_at size names v) (is_function names applied) (group_at names own clauses (cases_tables func word count cases names v))
+cases_complete_at back size done start next names v func word count clauses cases applied own lent e m =
+    let grows = cases_grow back start m.sound func word count clauses cases applied own lent done next e in
+    let begins : BeginsNames start.names names = begins_through start.names next.names names (begins_names start next grows.begins) m.begins in
+    let still = cases_stay start.names names func word count clauses cases applied own lent begins m.made in
     let s = still.signature in
     let known = still.known in
     let among : Contains own func = subst (λ (fs : List ℕ). Contains fs func) (sym lent.own) (contains_first func []) in
-    let points_are = m.complete func among ∙ ap (λ (n : NameList). points func n.definitions) kept in
-    let instances = subst (λ (fs : List ℕ). All (PlannedIsTrue (fs ++ []) size names v) (cases_plan func clauses start.names)) lent.own m.instances in
+    let points_are = m.complete func among ∙ points_stay (is_place applied) func start next grows.begins grows.only lent.others in
+    let instances = subst (λ (fs : List ℕ). All (PlannedIsTrue (fs ++ applied) size names v) (cases_plan func clauses start.names)) lent.own m.instances in
     let frame = frame_at size names v in
-    let applied = is_function names [] in
+    let lower = is_function names applied in
     let shown = map (table_case names v) cases in
     let us = map universal_of clauses in
     let few : length s.args ≤ most_arguments = subst (λ n. n ≤ most_arguments) (sym still.arguments) still.few in
-    let ofs : All (IsOfCase frame s.name (length s.args) applied shown) us =
-    All-map (IsOfCase frame s.name (length s.args) applied shown) universal_of clauses
-    (All-weaker (IsCaseClause start.names word count cases) (λ (c : FlatClause). IsOfCase frame s.name (length s.args) applied shown (universal_of c))
+    let ofs : All (IsOfCase frame s.name (length s.args) lower shown) us =
+    All-map (IsOfCase frame s.name (length s.args) lower shown) universal_of clauses
+    (All-weaker (IsCaseClause names word count cases applied) (λ (c : FlatClause). IsOfCase frame s.name (length s.args) lower shown (universal_of c))
     (λ c h.
-    let said = case_says size names start.names v word count cases c h begins m.made still.constants lent.sorted still.few in
-    subst (λ (w : Word). IsOfCase frame w (length s.args) applied shown (universal_of c)) (sym still.name)
-    (subst (λ n. IsOfCase frame word n applied shown (universal_of c)) (sym still.arguments) said))
-    clauses lent.all) in
-    let true_there : All (PointsAreTrue frame s.name applied) us =
-    All-map (PointsAreTrue frame s.name applied) universal_of clauses
-    (All-by (λ (c : FlatClause). PointsAreTrue frame s.name applied (universal_of c)) clauses
-    (λ c k. points_are_true names m.made m.fit func s known size v start.names points_are clauses instances c k)) in
-    let law = cases_complete frame s.name (length s.args) applied shown us few (arity names m.made m.fit func s known size v) m.congruent (λ w t. absurd (let no : false ≡ true = t in cc))
+    let said = case_says size names v word count cases applied c h m.made still.constants still.sorted still.few in
+    subst (λ (w : Word). IsOfCase frame w (length s.args) lower shown (universal_of c)) (sym still.name)
+    (subst (λ n. IsOfCase frame word n lower shown (universal_of c)) (sym still.arguments) said))
+    clauses still.all) in
+    let true_there : All (PointsAreTrue frame s.name lower) us =
+    All-map (PointsAreTrue frame s.name lower) universal_of clauses
+    (All-by (λ (c : FlatClause). PointsAreTrue frame s.name lower (universal_of c)) clauses
+    (λ c k. points_are_true names m.made m.fit func s known size v start.names points_are clauses applied instances c k)) in
+    let law = cases_complete frame s.name (length s.args) lower shown us few (arity names m.made m.fit func s known size v) m.congruent
+    (λ w t. other_word names still.distinct applied still.lower func s known still.others w t)
     (disjoint_there names v frame.consts cases still.apart) (all_in_order names v frame.consts cases still.ordered) ofs true_there in
-    let owns = completes_as frame us (case_table s.name (length s.args) (own_facts s.name frame.facts) shown ∷ []) applied (bytes_eq s.name) (λ w. is_function names (func ∷ []) w)
+    let owns = completes_as frame us (case_table s.name (length s.args) (own_facts s.name frame.facts) shown ∷ []) lower (bytes_eq s.name) (λ w. is_function names (func ∷ []) w)
     (owned names func s known) law in
-    let here = subst (λ (ks : List Fact). Completes frame applied (record { own = λ w. is_function names (func ∷ []) w; clauses = us; tables = case_table s.name (length s.args) ks shown ∷ [] }))
+    let here = subst (λ (ks : List Fact). Completes frame lower (record { own = λ w. is_function names (func ∷ []) w; clauses = us; tables = case_table s.name (length s.args) ks shown ∷ [] }))
     (facts_are names m.made m.fit func s known size v) owns in
-    let counted = subst (λ n. Completes frame applied (group_at names (func ∷ []) clauses (cases_tables func s.name n cases names v))) still.arguments here in
-    let named = subst (λ (w : Word). Completes frame applied (group_at names (func ∷ []) clauses (cases_tables func w count cases names v))) still.name counted in
-    subst (λ (fs : List ℕ). Completes frame applied (group_at names fs clauses (cases_tables func word count cases names v))) (sym lent.own) named
+    let counted = subst (λ n. Completes frame lower (group_at names (func ∷ []) clauses (cases_tables func s.name n cases names v))) still.arguments here in
+    let named = subst (λ (w : Word). Completes frame lower (group_at names (func ∷ []) clauses (cases_tables func w count cases names v))) still.name counted in
+    subst (λ (fs : List ℕ). Completes frame lower (group_at names fs clauses (cases_tables func word count cases names v))) (sym lent.own) named

@@ -1,10 +1,10 @@
 -- The arguments of an application fit each clause of its function, however large their numbers are.
 use Rattle.std.proofs.Common.{◌≡◌, ◌∙◌, ◌⊎◌, inl, inr, ℕ, zero, suc, ◌+◌, ◌≤◌, List, [], ◌∷◌, ◌++◌, map, length, take, Bool, true, false, ◌&&◌, cond, Option, Some, None, option_map, refl, sym, ap, subst, arith}
-use Rattle.std.specs.Prelude.{if◌then◌else◌, option_and_then, position, slice_get}
+use Rattle.std.specs.Prelude.{if◌then◌else◌, slice_get}
 use Rattle.std.specs.List.{All, AllZip, Contains}
 use Rattle.std.specs.Str.{bytes_eq}
 use Rattle.std.proofs.lemmas.Bool.{and_parts}
-use Rattle.std.proofs.lemmas.List.Elements.{All-contains, All-cons, All-head, All-nil, All-tail}
+use Rattle.std.proofs.lemmas.List.Elements.{All-contains, All-cons, All-head, All-nil, All-tail, All-weaker}
 use Rattle.hp_math.specs.Rational.{ℚ}
 use Rattle.hp_tree.specs.Limits.{most_arguments}
 use Rattle.hp_tree.specs.declared.term.Term.{Term, Apply, Name, Number, fold-roll-Term, map-Term, roll-Term}
@@ -23,13 +23,11 @@ use Rattle.hp_lit.specs.declared.line.Arg.TheVariants as arg
 use Rattle.hp_defs.specs.declared.names.Signature.{Signature}
 use Rattle.hp_defs.specs.Fit.{ArgFits, IsFitNames}
 use Rattle.hp_defs.specs.Made.{IsMade, IsSmallArg}
-use Rattle.hp_defs.specs.Names.{NameList, function_words, profile_of, signature_name, sorts}
-use Rattle.hp_defs.proofs.Distinct.{position_of}
+use Rattle.hp_defs.specs.Names.{NameList, profile_of, sorts}
 use Rattle.hp_local.specs.Rows.{argument_words}
 use Rattle.hp_local.specs.Substitution.{substitute, substitute_atom, substitute_step}
 use Rattle.hp_local.proofs.Lists.{All-by, contains_cases, contains_none, map_contains}
 use Rattle.hp_base.specs.Congruence.{Point}
-use Rattle.hp_base.proofs.ArgsDefined.{get_map}
 use Rattle.hp_norm.specs.declared.flat.FlatClause.{FlatClause}
 use Rattle.hp_norm.specs.Flat.{IsFlat}
 use Rattle.hp_norm.specs.Loads.{IsLightWithin, Load, argument_sorts, arguments_load, load, load_step, places_of}
@@ -37,14 +35,17 @@ use Rattle.hp_norm.specs.Scopes.{clause_scope, function_profile, term_scope}
 use Rattle.hp_instance.specs.declared.tuple.Tuple.{Tuple}
 use Rattle.hp_instance.specs.Laws.{IsLightAt, TupleFits}
 use Rattle.hp_instance.specs.Replacing.{arg_term, arg_terms, name_word, replaced_word, replacement}
+use Rattle.hp_class.specs.Frame.{is_function}
 use Rattle.hp_class.specs.Points.{points}
 use Rattle.hp_class.proofs.Points.{are_points}
+use Rattle.hp_flatten.specs.declared.application.Application.{Application}
 use Rattle.hp_flatten.specs.Applications.{applications, atoms_applications}
 use Rattle.hp_flatten.specs.Flattening.{argument_names, argument_var, argument_vars}
 use Rattle.hp_flatten.specs.Laws.{AreNum}
 use Rattle.hp_cases.specs.declared.case.Bound.{Bound}
-use Rattle.hp_cases.specs.Cases.{point_tuple}
-use Rattle.hp_cases.proofs.Bare.{bare_terms, both_none}
+use Rattle.hp_cases.specs.Cases.{AppliesThese, IsLowerFunction, bound_term, point_tuple}
+use Rattle.hp_cases.proofs.Applied.{both_none, lower_terms, none_lower}
+use Rattle.hp_cases.proofs.Functions.{lower_word, profile_is}
 use Rattle.hp_cases.proofs.Heads.{IsHead, IsOnLeft, IsOnRight}
 
 -- ---- words of arguments
@@ -123,33 +124,44 @@ module _ (scope : Scope) where
     fold : (y : Term-F Term) → substitute r (roll-Term y) ≡ substitute_step r (map-Term Term Term (substitute r) y)
     fold y = fold-roll-Term Term (substitute_step r) y
 
-    pub bare_light : (t : Term) → applications t ≡ [] → IsLight t
-    bare_light t e = bare_terms IsLight (record {
+    args_load : (places : List Sort) (args : List Term) → AreNum places → All IsLight args → arguments_load places (map (load scope) (map (substitute r) args)) ≡ 0
+    args_load places [] n h = refl
+    args_load [] (t ∷ args) n h = (let x = All-head IsLight t args h in let k = args_load [] args n (All-tail IsLight t args h) in omega (arith, x, k))
+    args_load (s ∷ places) (t ∷ args) n h =
+        let x = All-head IsLight t args h in
+        let k = args_load places args (All-tail (λ z. z ≡ Num) s places n) (All-tail IsLight t args h) in
+        subst (λ z. arguments_load (z ∷ places) (map (load scope) (map (substitute r) (t ∷ args))) ≡ 0) (sym (All-head (λ z. z ≡ Num) s places n)) (omega (arith, x, k))
+
+    abbrev pub Lower : Application → Type 0
+    Lower a = AreNum (places_of scope a.func)
+
+    pub lower_light : (t : Term) → All Lower (applications t) → IsLight t
+    lower_light t e = lower_terms Lower IsLight (record {
       number = λ q. replaced (Term-F.Number q) (Term-F.Number q) (fold (Term-F.Number q)) refl;
       null = replaced Term-F.Null Term-F.Null (fold Term-F.Null) refl;
       name = λ word. ap (λ t. (load scope t).indexes) (fold (Term-F.Name word)) ∙ light word;
+      apply = λ func args n h. replaced (Term-F.Apply func args) (Term-F.Apply func (map (substitute r) args)) (fold (Term-F.Apply func args)) (args_load (places_of scope func) args n h);
       add = λ a b h k. replaced (Term-F.Add a b) (Term-F.Add (substitute r a) (substitute r b)) (fold (Term-F.Add a b)) (omega (arith, h, k));
       subtract = λ a b h k. replaced (Term-F.Sub a b) (Term-F.Sub (substitute r a) (substitute r b)) (fold (Term-F.Sub a b)) (omega (arith, h, k));
       neg = λ a h. replaced (Term-F.Neg a) (Term-F.Neg (substitute r a)) (fold (Term-F.Neg a)) h;
       scale = λ q a h. replaced (Term-F.Scale q a) (Term-F.Scale q (substitute r a)) (fold (Term-F.Scale q a)) (omega (arith, h));
     }) t e
 
+    pub bare_light : (t : Term) → applications t ≡ [] → IsLight t
+    bare_light t e = lower_light t (none_lower Lower t e)
+
     substituted_name : (word : Word) → IsLight (Name word)
     substituted_name word = ap (λ t. (load scope (substitute r t)).indexes) (sym (rolls-Name word)) ∙ ap (λ t. (load scope t).indexes) (fold (Term-F.Name word)) ∙ light word
 
-    names_load : (places : List Sort) (words : List Word) → AreNum places → arguments_load places (map (load scope) (map (substitute r) (map Name words))) ≡ 0
-    names_load places [] n = refl
-    names_load [] (w ∷ ws) n = (let h = substituted_name w in let k = names_load [] ws n in omega (arith, h, k))
-    names_load (s ∷ places) (w ∷ ws) n =
-        let h = substituted_name w in
-        let k = names_load places ws (All-tail (λ z. z ≡ Num) s places n) in
-        subst (λ z. arguments_load (z ∷ places) (map (load scope) (map (substitute r) (map Name (w ∷ ws)))) ≡ 0) (sym (All-head (λ z. z ≡ Num) s places n)) (omega (arith, h, k))
+    names_light : (words : List Word) → All IsLight (map Name words)
+    names_light [] = All-nil IsLight
+    names_light (w ∷ ws) = All-cons IsLight (Name w) (map Name ws) (substituted_name w) (names_light ws)
 
     pub value_light : (func : Word) (words : List Word) → AreNum (places_of scope func) → IsLight (Apply func (map Name words))
     value_light func words n =
         let args = map Name words in
         ap (λ t. (load scope (substitute r t)).indexes) (sym (rolls-Apply func args))
-        ∙ replaced (Term-F.Apply func args) (Term-F.Apply func (map (substitute r) args)) (fold (Term-F.Apply func args)) (names_load (places_of scope func) words n)
+        ∙ replaced (Term-F.Apply func args) (Term-F.Apply func (map (substitute r) args)) (fold (Term-F.Apply func args)) (args_load (places_of scope func) args n (names_light words))
 
 -- ---- sorts
 forms_not_idx : (b : Bool) → has_form (if b then sort_forms Num else no_forms) Idx ≡ true → ⊥
@@ -174,15 +186,17 @@ bare_member (b ∷ atoms) a m e =
 
 -- ---- one clause
 module _ (names : NameList) (made : IsMade names) (fit : IsFitNames names) (func : ℕ) (s : Signature) (known : slice_get names.signatures func ≡ Some s) (nums : AreNum s.args) (result_is : s.result ≡ Num)
-    (count : ℕ) (few : count ≤ most_arguments) (counted : length s.args ≡ count) where
-  pub profile_is : function_profile names s.name ≡ Some (profile_of s)
-  profile_is =
-      let at : position (bytes_eq s.name) (function_words names) ≡ Some func =
-      position_of (function_words names) func s.name made.functions (get_map signature_name names.signatures func s known) in
-      ap (λ (o : Option ℕ). option_map profile_of (option_and_then (λ k. slice_get names.signatures k) o)) at ∙ ap (λ o. option_map profile_of o) known
+    (count : ℕ) (few : count ≤ most_arguments) (counted : length s.args ≡ count) (applied : List ℕ) (lower : All (IsLowerFunction names) applied) where
+  num_places : (f : ℕ) (t : Signature) → slice_get names.signatures f ≡ Some t → AreNum t.args → AreNum (places_of (term_scope names) t.name)
+  num_places f t there n = subst (λ (o : Option Profile). AreNum (argument_sorts o)) (sym (profile_is names made.functions f t there)) n
+
+  lower_places : (t : Term) → AppliesThese names applied t → All (λ (a : Application). AreNum (places_of (term_scope names) a.func)) (applications t)
+  lower_places t h =
+      All-weaker (λ (a : Application). is_function names applied a.func ≡ true) (λ (a : Application). AreNum (places_of (term_scope names) a.func))
+      (λ a e. let l = lower_word names applied lower a.func e in subst (λ (w : Word). AreNum (places_of (term_scope names) w)) l.name (num_places l.func l.signature l.known l.nums)) (applications t) h
 
   places_num : AreNum (places_of (term_scope names) s.name)
-  places_num = subst (λ (o : Option Profile). AreNum (argument_sorts o)) (sym profile_is) nums
+  places_num = num_places func s known nums
 
   pub point_args : (p : Point) → Contains (points func names.definitions) p → AreNumArgs (sorts names) p.args × (length p.args ≡ count)
   point_args p m =
@@ -190,7 +204,7 @@ module _ (names : NameList) (made : IsMade names) (fit : IsFitNames names) (func
       (num_args (sorts names) s.args p.args nums is.args, zip_length (ArgFits (sorts names)) s.args p.args is.args ∙ counted)
 
   module _ (c : FlatClause) (vars_are : c.vars ≡ argument_vars count) (flat : IsFlat names c) (guard_num : All (λ a. sort_of (clause_scope names c.vars) a ≡ Num) c.guard)
-      (bound : Bound) (head : IsHead s.name count c.guard c.head bound) (args : List Arg) (are_num : AreNumArgs (sorts names) args) (many : length args ≡ count) where
+      (bare : atoms_applications c.guard ≡ []) (bound : Bound) (head : IsHead s.name count c.head bound) (applies : AppliesThese names applied (bound_term bound)) (args : List Arg) (are_num : AreNumArgs (sorts names) args) (many : length args ≡ count) where
     abbrev r : Word → Term
     r = replacement names c.vars args
 
@@ -202,22 +216,24 @@ module _ (names : NameList) (made : IsMade names) (fit : IsFitNames names) (func
 
     guard_light : (a : Atom) → Contains c.guard a → IsLightAt names c args a
     guard_light a m =
-        let w = bare_member c.guard a m head.guard_bare in
+        let w = bare_member c.guard a m bare in
         record {
           inner = inner a (bare_light (term_scope names) r light a.left w.0) (bare_light (term_scope names) r light a.right w.1);
           sides = λ e. absurd (let n = All-contains (λ x. sort_of (clause_scope names c.vars) x ≡ Num) c.guard a guard_num m in let both : Num ≡ Idx = sym n ∙ e in cc);
         }
 
-    value_at : IsOnLeft s.name count head.atom bound ⊎ IsOnRight s.name count head.atom bound
-        → ((load (term_scope names) (substitute r head.atom.left)).indexes ≡ 0) × ((load (term_scope names) (substitute r head.atom.right)).indexes ≡ 0)
-    value_at (inl h) = (
-      ap (λ t. (load (term_scope names) (substitute r t)).indexes) h.left ∙ value_light (term_scope names) r light s.name (take count argument_words) places_num,
-      bare_light (term_scope names) r light head.atom.right h.free,
-    )
-    value_at (inr h) = (
-      bare_light (term_scope names) r light head.atom.left h.free,
-      ap (λ t. (load (term_scope names) (substitute r t)).indexes) h.right ∙ value_light (term_scope names) r light s.name (take count argument_words) places_num,
-    )
+    abbrev IsLightSide : Term → Type 0
+    IsLightSide t = (load (term_scope names) (substitute r t)).indexes ≡ 0
+
+    bound_light : IsLightSide (bound_term bound)
+    bound_light = lower_light (term_scope names) r light (bound_term bound) (lower_places (bound_term bound) applies)
+
+    function_light : (t : Term) → t ≡ Apply s.name (argument_names count) → IsLightSide t
+    function_light t is = ap (λ t. (load (term_scope names) (substitute r t)).indexes) is ∙ value_light (term_scope names) r light s.name (take count argument_words) places_num
+
+    value_at : IsOnLeft s.name count head.atom bound ⊎ IsOnRight s.name count head.atom bound → IsLightSide head.atom.left × IsLightSide head.atom.right
+    value_at (inl h) = (function_light head.atom.left h.left, subst IsLightSide h.other bound_light)
+    value_at (inr h) = (subst IsLightSide h.other bound_light, function_light head.atom.right h.right)
 
     abbrev scope : Scope
     scope = clause_scope names c.vars
@@ -226,8 +242,8 @@ module _ (names : NameList) (made : IsMade names) (fit : IsFitNames names) (func
     has t = has_form (forms_of scope t) Idx
 
     by_side : (has head.atom.left ≡ true) → (has head.atom.right ≡ true) → IsOnLeft s.name count head.atom bound ⊎ IsOnRight s.name count head.atom bound → ⊥
-    by_side x y (inl h) = value_not_idx scope s.name (argument_names count) (profile_of s) profile_is result_is (subst (λ t. has t ≡ true) h.left x)
-    by_side x y (inr h) = value_not_idx scope s.name (argument_names count) (profile_of s) profile_is result_is (subst (λ t. has t ≡ true) h.right y)
+    by_side x y (inl h) = value_not_idx scope s.name (argument_names count) (profile_of s) (profile_is names made.functions func s known) result_is (subst (λ t. has t ≡ true) h.left x)
+    by_side x y (inr h) = value_not_idx scope s.name (argument_names count) (profile_of s) (profile_is names made.functions func s known) result_is (subst (λ t. has t ≡ true) h.right y)
 
     not_idx : IsOnLeft s.name count head.atom bound ⊎ IsOnRight s.name count head.atom bound → atom_is_sorted scope head.atom ≡ true → sort_of scope head.atom ≡ Idx → ⊥
     not_idx side sorted e =
@@ -253,10 +269,11 @@ module _ (names : NameList) (made : IsMade names) (fit : IsFitNames names) (func
       head = subst (λ (bs : List Atom). All (IsLightAt names c args) bs) (sym head.head_is) (All-cons (IsLightAt names c args) head.atom [] head_light (All-nil (IsLightAt names c args)));
     }
 
-  pub points_fit : (c : FlatClause) → c.vars ≡ argument_vars count → IsFlat names c → All (λ a. sort_of (clause_scope names c.vars) a ≡ Num) c.guard → (bound : Bound) → IsHead s.name count c.guard c.head bound
+  pub points_fit : (c : FlatClause) → c.vars ≡ argument_vars count → IsFlat names c → All (λ a. sort_of (clause_scope names c.vars) a ≡ Num) c.guard → atoms_applications c.guard ≡ [] → (bound : Bound)
+      → IsHead s.name count c.head bound → AppliesThese names applied (bound_term bound)
       → All (λ (t : Tuple). TupleFits names c t.args) (map point_tuple (points func names.definitions))
-  points_fit c vars_are flat guard_num bound head =
+  points_fit c vars_are flat guard_num bare bound head applies =
       All-by (λ (t : Tuple). TupleFits names c t.args) (map point_tuple (points func names.definitions))
       (λ t k. (let w = map_contains point_tuple (points func names.definitions) t k in
       let a = point_args w.0 w.1 in
-      subst (λ (z : Tuple). TupleFits names c z.args) w.2 (arguments_fit c vars_are flat guard_num bound head w.0.args a.0 a.1)))
+      subst (λ (z : Tuple). TupleFits names c z.args) w.2 (arguments_fit c vars_are flat guard_num bare bound head applies w.0.args a.0 a.1)))

@@ -1,12 +1,14 @@
 pub mod Adding
-pub mod Bare
+pub mod Applied
+pub mod Functions
 pub mod Heads
 pub mod Fitting
 pub mod Words
 pub mod Sorted
 pub mod CaseRows
 pub mod Still
-pub mod Kept
 pub mod Laws
+pub mod Making
+pub mod Grows
 pub mod Says
 pub mod Complete

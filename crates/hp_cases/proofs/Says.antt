@@ -9,7 +9,7 @@ use Rattle.std.proofs.lemmas.List.Folds.{list_any-append, list_any_none}
 use Rattle.std.proofs.lemmas.List.Sums.{fails_before_first}
 use Rattle.hp_math.specs.Rational.{ℚ, whole, eq_ℚ, le_ℚ}
 use Rattle.hp_tree.specs.Limits.{most_arguments}
-use Rattle.hp_tree.specs.declared.term.Term.{Term, Apply, Name, fold-roll-Term}
+use Rattle.hp_tree.specs.declared.term.Term.{Term, Apply, Name, Number}
 use Rattle.hp_tree.specs.declared.term.Term.TheOpen.{Term-F}
 use Rattle.hp_tree.specs.declared.term.Term.TheVariants.{rolls-Number}
 use Rattle.hp_tree.specs.declared.problem.Atom.{Atom}
@@ -26,11 +26,11 @@ use Rattle.hp_names.proofs.Distinct.{absent}
 use Rattle.hp_names.proofs.Texts.{apart_back, not_both, same_text, text_same}
 use Rattle.hp_lit.specs.Truth.{Values, name_value}
 use Rattle.hp_defs.specs.Made.{IsMade}
-use Rattle.hp_defs.specs.Names.{BeginsNames, NameList, constant_name, constant_words, words}
+use Rattle.hp_defs.specs.Names.{NameList, constant_name, constant_words, words}
 use Rattle.hp_defs.proofs.Distinct.{words_are_distinct}
 use Rattle.hp_base.proofs.ArgsDefined.{get_map}
 use Rattle.hp_model.specs.Value.{with_arguments}
-use Rattle.hp_local.specs.Applied.{applies_only, applies_step}
+use Rattle.hp_local.specs.Applied.{applies_only}
 use Rattle.hp_local.specs.Cases.{IsBoundOf, IsOfCase, bound_applies, bound_is_true, bound_term as local_term, Bound as local_bound, Low as local_low, High as local_high, Same as local_same}
 use Rattle.hp_local.specs.Rows.{argument_words, number_term}
 use Rattle.hp_local.specs.Substitution.{HaveNamesValues, substitute, substitute_atom}
@@ -44,6 +44,7 @@ use Rattle.hp_norm.specs.Scopes.{clause_scope}
 use Rattle.hp_class.specs.Frame.{environment, frame_at, is_function}
 use Rattle.hp_class.proofs.Through.{words_agree}
 use Rattle.hp_flatten.specs.Applications.{applications}
+use Rattle.hp_flatten.proofs.HoldsTerms.{applications_at}
 use Rattle.hp_flatten.specs.Flattening.{argument_names, argument_var, argument_vars}
 use Rattle.hp_flatten.specs.Laws.{HasPlainConstants}
 use Rattle.hp_cases.specs.declared.case.Bound.{Bound}
@@ -51,6 +52,7 @@ use Rattle.hp_cases.specs.declared.case.Bound.TheVariants.{Low, High, Same}
 use Rattle.hp_cases.specs.declared.case.Case.{Case}
 use Rattle.hp_cases.specs.Bounds.{bound_left, bound_right}
 use Rattle.hp_cases.specs.Cases.{HasBound, IsCaseClause, IsNumBound, IsNumCase, bound_term, table_bound, table_case, valued, word_term}
+use Rattle.hp_cases.proofs.Applied.{Passes, bare_applies}
 use Rattle.hp_cases.proofs.CaseRows.{guard_applies, term_applies}
 use Rattle.hp_cases.proofs.Heads.{IsHead, IsOnLeft, IsOnRight, head_of}
 use Rattle.hp_cases.proofs.Words.{argument_stays, constant_at, no_name, place_is}
@@ -262,16 +264,16 @@ shown_of names v case (Low t) h = ap (table_bound names v) h
 shown_of names v case (High t) h = ap (table_bound names v) h
 shown_of names v case (Same t) h = (ap (table_bound names v) h.0, ap (table_bound names v) h.1)
 
-shown_applies : (test : Word → Bool) (names : NameList) (v : Values) (bound : Bound) → applications (bound_term bound) ≡ [] → bound_applies test (shown_bound (word_term names v) bound) ≡ true
+shown_applies : (test : Word → Bool) (names : NameList) (v : Values) (bound : Bound) → All (Passes test) (applications (bound_term bound)) → bound_applies test (shown_bound (word_term names v) bound) ≡ true
 shown_applies test names v (Low t) e = term_applies test names v t e
 shown_applies test names v (High t) e = term_applies test names v t e
 shown_applies test names v (Same t) e = term_applies test names v t e
 
-shown_term_applies : (test : Word → Bool) (names : NameList) (v : Values) (scope : Scope) (low high : Option Term) → IsNumBound scope low → IsNumBound scope high
-    → applies_only test (local_term (table_bound names v low) (table_bound names v high)) ≡ true
-shown_term_applies test names v scope (Some s) high h k = term_applies test names v s h.free
-shown_term_applies test names v scope None (Some t) h k = term_applies test names v t k.free
-shown_term_applies test names v scope None None h k = ap (applies_only test) (sym (rolls-Number zero_ℚ)) ∙ fold-roll-Term Bool (applies_step test) (Term-F.Number zero_ℚ)
+shown_term_applies : (names : NameList) (v : Values) (applied : List ℕ) (scope : Scope) (low high : Option Term) → IsNumBound names applied scope low → IsNumBound names applied scope high
+    → applies_only (is_function names applied) (local_term (table_bound names v low) (table_bound names v high)) ≡ true
+shown_term_applies names v applied scope (Some s) high h k = term_applies (is_function names applied) names v s h.lower
+shown_term_applies names v applied scope None (Some t) h k = term_applies (is_function names applied) names v t k.lower
+shown_term_applies names v applied scope None None h k = bare_applies (is_function names applied) (Number zero_ℚ) (ap applications (sym (rolls-Number zero_ℚ)) ∙ applications_at (Term-F.Number zero_ℚ))
 
 shown_is_true : (now names : Environment) (functions : Functions) (r : Word → Term) → HaveNamesValues now functions r names → (bound : Bound) (y : ℚ)
     → bound_is_true names functions (plain_bound bound) y ≡ bound_is_true now functions (shown_bound r bound) y
@@ -323,8 +325,8 @@ module _ (names : Environment) (functions : Functions) (y : ℚ) where
     or_false true = refl
     or_false false = refl
 
-    head_says : (guard head : List Atom) (bound : Bound) → IsHead func count guard head bound → one_true names functions head ≡ Truth bound
-    head_says guard head bound h =
+    head_says : (head : List Atom) (bound : Bound) → IsHead func count head bound → one_true names functions head ≡ Truth bound
+    head_says head bound h =
         ap (one_true names functions) h.head_is ∙ or_false (atom_is_true names functions h.atom) ∙ side_says h.atom bound h.side
 
 -- ---- clauses
@@ -333,7 +335,7 @@ counted ws zero l = refl
 counted [] (suc count) l = absurd (omega (arith, l))
 counted (w ∷ ws) (suc count) l = ap suc (counted ws count (omega (arith, l)))
 
-module _ (names before : NameList) (v : Values) (word : Word) (count : ℕ) (cases : List Case) (c : FlatClause) (h : IsCaseClause before word count cases c) (made : IsMade names)
+module _ (names : NameList) (v : Values) (word : Word) (count : ℕ) (cases : List Case) (applied : List ℕ) (c : FlatClause) (h : IsCaseClause names word count cases applied c) (made : IsMade names)
     (plain : HasPlainConstants names) where
   abbrev all : Environment
   all = environment (words names) v
@@ -351,31 +353,31 @@ module _ (names before : NameList) (v : Values) (word : Word) (count : ℕ) (cas
       let now = with_arguments xs alone in
       let given = assign (argument_vars (length xs)) xs all in
       let have : HaveNamesValues now functions r given = have_values names v made plain functions xs few in
-      let applied : value given functions (Apply word (argument_names count)) ≡ functions word xs =
+      let value_is : value given functions (Apply word (argument_names count)) ≡ functions word xs =
       ap (λ n. value given functions (Apply word (argument_names n))) (sym e) ∙ apply_value given functions word (argument_names (length xs))
       ∙ ap (functions word) (named_values given functions argument_words xs (reads_variables xs all few)) in
       let guard : all_true given functions c.guard ≡ all_true now functions (map (substitute_atom r) h.case.guard) =
       h.guard given functions ∙ sym (substitutes_keep_guards now given functions r have h.case.guard) in
       let head : one_true given functions c.head ≡ bound_is_true now functions (shown_bound r h.bound) (functions word xs) =
-      head_says given functions (functions word xs) word count applied c.guard c.head h.bound (head_of word count c.guard c.head h.bound h.head h.one)
+      head_says given functions (functions word xs) word count value_is c.head h.bound (head_of word count c.head h.bound h.head h.value)
       ∙ shown_is_true now given functions r have h.bound (functions word xs) in
       ap (λ (vars : List Var). not (all_true (assign vars xs all) functions c.guard) || one_true (assign vars xs all) functions c.head) (h.vars ∙ ap argument_vars (sym e))
       ∙ (λ i. not (guard i) || head i)
 
-pub case_says : (size : ℕ) (names before : NameList) (v : Values) (word : Word) (count : ℕ) (cases : List Case) (c : FlatClause) → IsCaseClause before word count cases c → BeginsNames before names
-    → IsMade names → HasPlainConstants names → All (IsNumCase before count) cases → count ≤ most_arguments
-    → IsOfCase (frame_at size names v) word count (is_function names []) (map (table_case names v) cases) (universal_of c)
-case_says size names before v word count cases c h begins made plain nums few =
-    let num = All-contains (IsNumCase before count) cases h.case nums h.among in
-    let test = is_function names [] in
+pub case_says : (size : ℕ) (names : NameList) (v : Values) (word : Word) (count : ℕ) (cases : List Case) (applied : List ℕ) (c : FlatClause) → IsCaseClause names word count cases applied c
+    → IsMade names → HasPlainConstants names → All (IsNumCase names count applied) cases → count ≤ most_arguments
+    → IsOfCase (frame_at size names v) word count (is_function names applied) (map (table_case names v) cases) (universal_of c)
+case_says size names v word count cases applied c h made plain nums few =
+    let num = All-contains (IsNumCase names count applied) cases h.case nums h.among in
+    let test = is_function names applied in
     record {
       case = table_case names v h.case;
       among = contains_map (table_case names v) cases h.case h.among;
       bound = shown_bound (word_term names v) h.bound;
       of_case = shown_of names v h.case h.bound h.has;
       arguments = ap (λ (vars : List Var). length vars) h.vars ∙ counted argument_words count few;
-      guard_applies = guard_applies test names v (clause_scope before (argument_vars count)) h.case.guard num.guard;
-      term_applies = shown_term_applies test names v (clause_scope before (argument_vars count)) h.case.low h.case.high num.low num.high;
-      bound_applies_lower = shown_applies test names v h.bound h.free;
-      says = λ functions xs is. clause_says names before v word count cases c h made plain functions xs is (omega (arith, is, few));
+      guard_applies = guard_applies test names v (clause_scope names (argument_vars count)) h.case.guard num.guard;
+      term_applies = shown_term_applies names v applied (clause_scope names (argument_vars count)) h.case.low h.case.high num.low num.high;
+      bound_applies_lower = shown_applies test names v h.bound h.lower;
+      says = λ functions xs is. clause_says names v word count cases applied c h made plain functions xs is (omega (arith, is, few));
     }

@@ -1,9 +1,10 @@
--- A clause of cases at the arguments of an application that is there makes no definition.
-use Rattle.std.proofs.Common.{◌≡◌, ◌∙◌, ◌⊎◌, inl, inr, ℕ, suc, ◌≤◌, List, [], ◌∷◌, ◌++◌, map, length, Bool, true, false, Option, Some, None, Result, Ok, refl, sym, ap, subst, arith}
+-- The guard of a clause of cases, and its function, make no definition at the arguments of an application that is there.
+use Rattle.std.proofs.Common.{◌≡◌, ◌∙◌, ℕ, zero, suc, ◌<◌, ◌≤◌, get_or, List, [], ◌∷◌, ◌++◌, map, length, Bool, true, false, Option, Some, None, Result, Ok, refl, sym, ap, subst, arith}
 use Rattle.std.specs.Prelude.{codes, if◌then◌else◌, position, slice_get}
 use Rattle.std.specs.List.{All, AllZip}
 use Rattle.std.specs.Str.{bytes_eq}
 use Rattle.std.proofs.lemmas.List.Elements.{All-head, All-tail}
+use Rattle.std.proofs.lemmas.Option.{slice_get_within}
 use Rattle.hp_math.specs.Rational.{ℚ}
 use Rattle.hp_tree.specs.Limits.{most_arguments}
 use Rattle.hp_tree.specs.declared.limit.Limit.{Limit}
@@ -25,26 +26,28 @@ use Rattle.hp_defs.specs.declared.names.Signature.{Signature}
 use Rattle.hp_defs.specs.Fit.{ArgFits}
 use Rattle.hp_defs.specs.First.{IsFirst}
 use Rattle.hp_defs.specs.Made.{IsMade}
-use Rattle.hp_defs.specs.Names.{NameList, function_words, definition_name, signature_name, sorts}
+use Rattle.hp_defs.specs.Names.{BeginsNames, NameList, function_words, definition_name, signature_name, sorts, words}
 use Rattle.hp_defs.specs.Same.{place}
-use Rattle.hp_defs.proofs.Distinct.{position_of}
+use Rattle.hp_defs.proofs.Distinct.{length_words, position_of}
+use Rattle.hp_defs.proofs.Growing.{begins_get, length_sorts, names_begin}
 use Rattle.hp_defs.proofs.Same.{place_is_exact}
 use Rattle.hp_local.specs.Substitution.{substitute, substitute_atom, substitute_step}
 use Rattle.hp_base.specs.Arguments.{argument_of}
 use Rattle.hp_base.specs.Defining.{definition_of, found_or_made}
-use Rattle.hp_base.specs.Making.{Maker, ◌then◌, each, keep}
+use Rattle.hp_base.specs.Making.{Begins, Maker, ◌then◌, each, keep}
 use Rattle.hp_base.proofs.ArgsDefined.{get_map}
+use Rattle.hp_base.proofs.ArgsMade.{arguments_stay_fit}
+use Rattle.hp_base.proofs.Making.{begins_names}
 use Rattle.hp_norm.specs.Naming.{Placed, applied, applied_at, arguments, named, named_atom, named_atoms, name_step, name_term, placed, placed_argument, signed, one, two}
 use Rattle.hp_instance.specs.Laws.{ArgumentsComeBack}
 use Rattle.hp_instance.specs.Replacing.{arg_term, arg_terms, name_word, replaced_atoms, replaced_word, replacement}
+use Rattle.hp_flatten.specs.declared.application.Application.{Application}
 use Rattle.hp_flatten.specs.Applications.{applications, atoms_applications}
 use Rattle.hp_flatten.specs.Flattening.{argument_names, argument_vars}
 use Rattle.hp_flatten.specs.Laws.{AreNum}
 use Rattle.hp_tables.proofs.Still.{Still, substitute_apply, substitute_name}
-use Rattle.hp_cases.specs.declared.case.Bound.{Bound}
-use Rattle.hp_cases.proofs.Bare.{bare_terms, both_none}
-use Rattle.hp_cases.proofs.Fitting.{AreNumArgs}
-use Rattle.hp_cases.proofs.Heads.{IsHead, IsOnLeft, IsOnRight}
+use Rattle.hp_cases.proofs.Applied.{both_none, lower_terms, none_lower}
+use Rattle.hp_cases.proofs.Fitting.{AreNumArgs, num_args}
 
 -- ---- steps that make nothing
 one_still : (build : Term → Term) (m : Maker Term) (g : Ground) → Still m g → Still (one build m) g
@@ -114,16 +117,21 @@ module _ (item : ℕ) (g : Ground) (r : Word → Term) (words : (word : Word) �
     is = ap (λ (m : Maker Term). m g) (ap (named item) is ∙ fold-roll-Term (Maker Term) (name_step item) z) ∙ h.is;
   }
 
+  -- no application
+  abbrev None_is : Application → Type 0
+  None_is a = ⊥
+
   pub bare_still : (t : Term) → applications t ≡ [] → IsStill t
-  bare_still t e = bare_terms IsStill (record {
+  bare_still t e = lower_terms None_is IsStill (record {
     number = λ q. replaced (Term-F.Number q) (Term-F.Number q) (fold (Term-F.Number q)) (record { value = Number q; is = refl });
     null = replaced Term-F.Null Term-F.Null (fold Term-F.Null) (record { value = Null; is = refl });
     name = λ word. subst (λ (t : Term). Still (named item t) g) (sym (fold (Term-F.Name word))) (words word);
+    apply = λ func args none h. absurd none;
     add = λ a b h k. replaced (Term-F.Add a b) (Term-F.Add (substitute r a) (substitute r b)) (fold (Term-F.Add a b)) (two_still Add _ _ g h k);
     subtract = λ a b h k. replaced (Term-F.Sub a b) (Term-F.Sub (substitute r a) (substitute r b)) (fold (Term-F.Sub a b)) (two_still Sub _ _ g h k);
     neg = λ a h. replaced (Term-F.Neg a) (Term-F.Neg (substitute r a)) (fold (Term-F.Neg a)) (one_still Neg _ g h);
     scale = λ q a h. replaced (Term-F.Scale q a) (Term-F.Scale q (substitute r a)) (fold (Term-F.Scale q a)) (one_still (Scale q) _ g h);
-  }) t e
+  }) t (none_lower None_is t e)
 
   pub bare_atoms_still : (atoms : List Atom) → atoms_applications atoms ≡ [] → Still (named_atoms item (map (substitute_atom r) atoms)) g
   bare_atoms_still [] e = no_atoms_still item g
@@ -154,16 +162,56 @@ body_there b ds k d e is = by (place b ds) refl (place_is_exact b ds)
     by None p f = absurd (f k (get_map (λ (x : Def). x.body) ds k d e ∙ ap (λ (z : Body). Some z) is))
     by (Some j) p f = (j, p)
 
-module _ (back : ArgumentsComeBack) (item : ℕ) (g : Ground) (made : IsMade g.names) (func : ℕ) (s : Signature) (known : slice_get g.names.signatures func ≡ Some s) (nums : AreNum s.args) where
-  -- arguments at which the function is applied
-  pub record IsThere (xs : List Arg) : Type 0 where
-    pub fits : AreNumArgs (sorts g.names) xs
-    pub places : AllZip (ArgFits (sorts g.names)) s.args xs
-    pub at : ℕ
-    pub definition : Def
-    pub there : slice_get g.names.definitions at ≡ Some definition
-    pub body : definition.body ≡ bodies.Apply func xs
+-- arguments at which a function is applied
+pub record IsThere (g : Ground) (func : ℕ) (s : Signature) (xs : List Arg) : Type 0 where
+  pub fits : AreNumArgs (sorts g.names) xs
+  pub places : AllZip (ArgFits (sorts g.names)) s.args xs
+  pub at : ℕ
+  pub definition : Def
+  pub there : slice_get g.names.definitions at ≡ Some definition
+  pub body : definition.body ≡ bodies.Apply func xs
 
+-- they stay such
+fit_later : (old new : Ground) → Begins old new → (ss : List Sort) (xs : List Arg) → AllZip (ArgFits (sorts old.names)) ss xs → AllZip (ArgFits (sorts new.names)) ss xs
+fit_later old new b [] [] h = tt
+fit_later old new b [] (x ∷ xs) h = absurd h
+fit_later old new b (z ∷ ss) [] h = absurd h
+fit_later old new b (z ∷ ss) (x ∷ xs) h = (arguments_stay_fit old new z x b h.0, fit_later old new b ss xs h.1)
+
+pub there_later : (old new : Ground) (func : ℕ) (s : Signature) (xs : List Arg) → Begins old new → AreNum s.args → IsThere old func s xs → IsThere new func s xs
+there_later old new func s xs b nums h =
+    let places = fit_later old new b s.args xs h.places in
+    record {
+      fits = num_args (sorts new.names) s.args xs nums places;
+      places = places;
+      at = h.at;
+      definition = h.definition;
+      there = begins_get old.names.definitions new.names.definitions h.at h.definition (begins_names old new b).definitions h.there;
+      body = h.body;
+    }
+
+-- and their terms stay
+front_get : {A : Type 0} (xs ys : List A) (k : ℕ) (d : A) → k < length xs → get_or (xs ++ ys) k d ≡ get_or xs k d
+front_get [] ys k d h = absurd (omega arith)
+front_get (x ∷ xs) ys zero d h = refl
+front_get (x ∷ xs) ys (suc k) d h = front_get xs ys k d (omega arith)
+
+term_stays : (old new : NameList) → BeginsNames old new → (x : Arg) → ArgFits (sorts old) Num x → arg_term new x ≡ arg_term old x
+term_stays old new b (arg.Number q) h = refl
+term_stays old new b (arg.Named n) h =
+    let front = (names_begin old new b).words in
+    let within = slice_get_within (sorts old) n.0 Num h in
+    let word : name_word new n ≡ name_word old n =
+    ap (λ (ws : List Word). get_or ws n.0 []) front.all ∙ front_get (words old) front.more n.0 [] (let all = length_words old in let also = length_sorts old in omega (arith, within, all, also)) in
+    ap (λ (w : Word). Name w) word
+term_stays old new b (arg.Index base offset) h = absurd h
+term_stays old new b arg.Null h = absurd h
+
+pub terms_stay : (old new : NameList) → BeginsNames old new → (xs : List Arg) → AreNumArgs (sorts old) xs → arg_terms new xs ≡ arg_terms old xs
+terms_stay old new b [] h = refl
+terms_stay old new b (x ∷ xs) h = (λ i. term_stays old new b x h.0 i ∷ terms_stay old new b xs h.1 i)
+
+module _ (back : ArgumentsComeBack) (item : ℕ) (g : Ground) (made : IsMade g.names) (func : ℕ) (s : Signature) (known : slice_get g.names.signatures func ≡ Some s) (nums : AreNum s.args) where
   abbrev rest : List Arg → Maker Term
   rest xs mid = definition_of func xs mid then λ name. λ end. Ok (name_term end.names name, end)
 
@@ -180,7 +228,7 @@ module _ (back : ArgumentsComeBack) (item : ℕ) (g : Ground) (made : IsMade g.n
       ap (λ (r : Result (Arg × Ground) Limit). r then λ y. λ mid. each (placed_argument item) ms mid then λ ys. λ end. Ok (y ∷ ys, end)) one
       ∙ ap (λ (r : Result (List Arg × Ground) Limit). r then λ ys. λ end. Ok (x ∷ ys, end)) (args_still ss xs (All-tail (λ (y : Sort). y ≡ Num) z ss n) h.1)
 
-  value_still : (xs : List Arg) → IsThere xs → Still (named item (Apply s.name (arg_terms g.names xs))) g
+  pub value_still : (xs : List Arg) → IsThere g func s xs → Still (named item (Apply s.name (arg_terms g.names xs))) g
   value_still xs h =
       let ms = map (named item) (arg_terms g.names xs) in
       let where_is : position (bytes_eq s.name) (function_words g.names) ≡ Some func =
@@ -195,31 +243,17 @@ module _ (back : ArgumentsComeBack) (item : ℕ) (g : Ground) (made : IsMade g.n
             ∙ ap (λ o. found_or_made (bodies.Apply func xs) o g then λ name. λ end. Ok (name_term end.names name, end)) found.1;
       }
 
-  module _ (count : ℕ) (few : count ≤ most_arguments) (xs : List Arg) (counted : length xs ≡ count) (h : IsThere xs) where
-    abbrev ρ : Word → Term
-    ρ = replacement g.names (argument_vars count) xs
+-- ---- a clause at them
+module _ (names : NameList) (count : ℕ) (few : count ≤ most_arguments) (xs : List Arg) (counted : length xs ≡ count) where
+  abbrev ρ : Word → Term
+  ρ = replacement names (argument_vars count) xs
 
-    words_still : (word : Word) → Still (named item (ρ word)) g
-    words_still = word_still item g.names g (argument_vars count) xs h.fits
+  -- the function at the words of the arguments is it at the arguments
+  pub value_at : (word : Word) → substitute ρ (Apply word (argument_names count)) ≡ Apply word (arg_terms names xs)
+  value_at word =
+      let stand = subst (λ n. map (substitute (replacement names (argument_vars n) xs)) (argument_names n) ≡ arg_terms names xs) counted
+      (arguments_stand names xs (subst (λ n. n ≤ most_arguments) (sym counted) few)) in
+      substitute_apply ρ word (argument_names count) ∙ ap (λ ts. Apply word ts) stand
 
-    applied_still : Still (named item (substitute ρ (Apply s.name (argument_names count)))) g
-    applied_still =
-        let stand = subst (λ n. map (substitute (replacement g.names (argument_vars n) xs)) (argument_names n) ≡ arg_terms g.names xs) counted
-        (arguments_stand g.names xs (subst (λ n. n ≤ most_arguments) (sym counted) few)) in
-        let is = substitute_apply ρ s.name (argument_names count) ∙ ap (λ ts. Apply s.name ts) stand in
-        subst (λ (t : Term). Still (named item t) g) (sym is) (value_still xs h)
-
-    side_still : (atom : Atom) (bound : Bound) → IsOnLeft s.name count atom bound ⊎ IsOnRight s.name count atom bound → Still (named_atom item (substitute_atom ρ atom)) g
-    side_still atom bound (inl l) =
-        atom_still item (substitute_atom ρ atom) g (subst (λ (t : Term). Still (named item (substitute ρ t)) g) (sym l.left) applied_still) (bare_still item g ρ words_still atom.right l.free)
-    side_still atom bound (inr l) =
-        atom_still item (substitute_atom ρ atom) g (bare_still item g ρ words_still atom.left l.free) (subst (λ (t : Term). Still (named item (substitute ρ t)) g) (sym l.right) applied_still)
-
-    module _ (guard head : List Atom) (bound : Bound) (is : IsHead s.name count guard head bound) where
-      pub guard_still : Still (named_atoms item (replaced_atoms g.names (argument_vars count) xs guard)) g
-      guard_still = bare_atoms_still item g ρ words_still guard is.guard_bare
-
-      pub head_still : Still (named_atoms item (replaced_atoms g.names (argument_vars count) xs head)) g
-      head_still =
-          subst (λ (atoms : List Atom). Still (named_atoms item (replaced_atoms g.names (argument_vars count) xs atoms)) g) (sym is.head_is)
-          (more_atoms_still item (substitute_atom ρ is.atom) [] g (side_still is.atom bound is.side) (no_atoms_still item g))
+  pub guard_still : (item : ℕ) (g : Ground) → AreNumArgs (sorts names) xs → (guard : List Atom) → atoms_applications guard ≡ [] → Still (named_atoms item (replaced_atoms names (argument_vars count) xs guard)) g
+  guard_still item g fits guard bare = bare_atoms_still item g ρ (word_still item names g (argument_vars count) xs fits) guard bare

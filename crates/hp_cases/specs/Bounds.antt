@@ -43,3 +43,12 @@ atom_bound func atom =
 abbrev pub head_bound : Word → List Atom → Option Bound
 head_bound func (atom ∷ []) = atom_bound func atom
 head_bound func _ = None
+
+-- ---- the value that is bounded
+-- the side that the function is on
+abbrev pub atom_value : Word → Atom → Term
+atom_value func atom = if applies_it func (out-Term atom.left) then atom.left else atom.right
+
+abbrev pub head_value : Word → List Atom → Option Term
+head_value func (atom ∷ []) = Some (atom_value func atom)
+head_value func _ = None

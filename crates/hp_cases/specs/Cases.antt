@@ -4,16 +4,17 @@ use Rattle.std.specs.List.{All, Contains}
 use Rattle.std.specs.Str.{bytes_eq}
 use Rattle.hp_math.specs.Rational.{◌≤ℚ◌}
 use Rattle.hp_tree.specs.Limits.{most_arguments}
-use Rattle.hp_tree.specs.declared.term.Term.{Term, Name}
+use Rattle.hp_tree.specs.declared.term.Term.{Term, Apply, Name}
 use Rattle.hp_tree.specs.declared.problem.Atom.{Atom}
 use Rattle.hp_tree.specs.declared.problem.Sort.TheVariants.{Num}
 use Rattle.hp_tree.specs.Value.{Word, Environment, Functions, value, all_true}
+use Rattle.hp_names.specs.Names.{AreDistinct}
 use Rattle.hp_terms.specs.Scope.{Scope}
 use Rattle.hp_terms.specs.Sorting.{forms_of, has_form, is_sorted, sort_of}
 use Rattle.hp_lit.specs.declared.line.Arg.TheVariants.{Named}
 use Rattle.hp_lit.specs.Truth.{Values, name_value}
 use Rattle.hp_defs.specs.declared.names.Signature.{Signature}
-use Rattle.hp_defs.specs.Names.{NameList, constant_words, words}
+use Rattle.hp_defs.specs.Names.{NameList, function_words, words}
 use Rattle.hp_model.specs.declared.structure.Table.{Table}
 use Rattle.hp_local.specs.Cases.{Case as local_case, case_table}
 use Rattle.hp_local.specs.Rows.{number_term}
@@ -26,16 +27,28 @@ use Rattle.hp_norm.specs.Scopes.{clause_scope}
 use Rattle.hp_instance.specs.declared.tuple.Tuple.{Tuple}
 use Rattle.hp_instance.specs.Instances.{instance}
 use Rattle.hp_instance.specs.Laws.{TupleFits}
-use Rattle.hp_class.specs.Frame.{facts_of}
+use Rattle.hp_class.specs.Frame.{facts_of, is_function, is_place}
 use Rattle.hp_class.specs.Group.{Planned}
 use Rattle.hp_class.specs.Points.{points}
-use Rattle.hp_flatten.specs.Applications.{applications, clause_applications}
-use Rattle.hp_flatten.specs.Flattening.{argument_vars, at_words}
+use Rattle.hp_flatten.specs.Applications.{applications, atoms_applications}
+use Rattle.hp_flatten.specs.Flattening.{argument_names, argument_vars}
 use Rattle.hp_flatten.specs.Laws.{AreNum, HasPlainConstants}
 use Rattle.hp_cases.specs.declared.case.Bound.{Bound}
 use Rattle.hp_cases.specs.declared.case.Bound.TheVariants.{Low, High, Same}
 use Rattle.hp_cases.specs.declared.case.Case.{Case}
-use Rattle.hp_cases.specs.Bounds.{head_bound}
+use Rattle.hp_cases.specs.Bounds.{head_bound, head_value}
+
+-- ---- lower functions
+-- each application in the term is of one of the functions at these places
+abbrev pub AppliesThese : NameList → List ℕ → Term → Type 0
+AppliesThese names applied term = All (λ a. is_function names applied a.func ≡ true) (applications term)
+
+-- the function at a place is one of num to num
+pub record IsLowerFunction (names : NameList) (func : ℕ) : Type 0 where
+  pub signature : Signature
+  pub known : slice_get names.signatures func ≡ Some signature
+  pub nums : AreNum signature.args
+  pub result : signature.result ≡ Num
 
 -- ---- clauses
 abbrev pub bound_term : Bound → Term
@@ -53,15 +66,17 @@ HasBound case (Same t) = (case.low ≡ Some t) × (case.high ≡ Some t)
 abbrev pub AreSameGuards : List Atom → List Atom → Type 0
 AreSameGuards guard other = (env : Environment) (functions : Functions) → all_true env functions guard ≡ all_true env functions other
 
--- a clause over the words of the arguments, whose guard is that of a case of the function, with a bound that the case has
-pub record IsCaseClause (names : NameList) (func : Word) (count : ℕ) (cases : List Case) (c : FlatClause) : Type 0 where
+-- a clause over the words of the arguments, whose guard is that of a case of the function, with a bound that the case has: its head
+-- compares the function at these words with the bound, which applies lower functions alone, and its guard applies none
+pub record IsCaseClause (names : NameList) (func : Word) (count : ℕ) (cases : List Case) (applied : List ℕ) (c : FlatClause) : Type 0 where
   pub flat : IsFlat names c
   pub vars : c.vars ≡ argument_vars count
   pub bound : Bound
   pub head : head_bound func c.head ≡ Some bound
+  pub value : head_value func c.head ≡ Some (Apply func (argument_names count))
+  pub lower : AppliesThese names applied (bound_term bound)
   pub nums : All (λ a. sort_of (clause_scope names c.vars) a ≡ Num) c.guard
-  pub one : clause_applications c ≡ at_words func count ∷ []
-  pub free : applications (bound_term bound) ≡ []
+  pub bare : atoms_applications c.guard ≡ []
   pub case : Case
   pub among : Contains cases case
   pub has : HasBound case bound
@@ -81,29 +96,31 @@ abbrev pub IsInOrder : Case → Type 0
 IsInOrder case = (s t : Term) → case.low ≡ Some s → case.high ≡ Some t → (env : Environment) (functions : Functions) → IsTrue (all_true env functions case.guard)
     → value env functions s ≤ℚ value env functions t
 
--- an atom or a term of num names, without applications
+-- an atom of num names, without applications
 pub record IsNumAtom (scope : Scope) (atom : Atom) : Type 0 where
   pub sorted : is_sorted scope Num atom ≡ true
   pub left : applications atom.left ≡ []
   pub right : applications atom.right ≡ []
 
-pub record IsNumTerm (scope : Scope) (term : Term) : Type 0 where
+-- a num term, which applies the functions at these places alone
+pub record IsNumTerm (names : NameList) (applied : List ℕ) (scope : Scope) (term : Term) : Type 0 where
   pub sorted : has_form (forms_of scope term) Num ≡ true
-  pub free : applications term ≡ []
+  pub lower : AppliesThese names applied term
 
-abbrev pub IsNumBound : Scope → Option Term → Type 0
-IsNumBound scope None = Unit {0}
-IsNumBound scope (Some term) = IsNumTerm scope term
+abbrev pub IsNumBound : NameList → List ℕ → Scope → Option Term → Type 0
+IsNumBound names applied scope None = Unit {0}
+IsNumBound names applied scope (Some term) = IsNumTerm names applied scope term
 
 -- over names and the words of so many arguments
-pub record IsNumCase (names : NameList) (count : ℕ) (case : Case) : Type 0 where
+pub record IsNumCase (names : NameList) (count : ℕ) (applied : List ℕ) (case : Case) : Type 0 where
   pub guard : All (IsNumAtom (clause_scope names (argument_vars count))) case.guard
-  pub low : IsNumBound (clause_scope names (argument_vars count)) case.low
-  pub high : IsNumBound (clause_scope names (argument_vars count)) case.high
+  pub low : IsNumBound names applied (clause_scope names (argument_vars count)) case.low
+  pub high : IsNumBound names applied (clause_scope names (argument_vars count)) case.high
 
 -- ---- a function by cases
--- the function at a place, of num to num, with its word, its number of arguments, its clauses and their cases
-pub record IsByCases (names : NameList) (func : ℕ) (word : Word) (count : ℕ) (clauses : List FlatClause) (cases : List Case) (funcs : List ℕ) : Type 0 where
+-- the function at a place, of num to num, with its word, its number of arguments, its clauses, their cases, and the lower functions
+-- that their bounds apply
+pub record IsByCases (names : NameList) (func : ℕ) (word : Word) (count : ℕ) (clauses : List FlatClause) (cases : List Case) (applied funcs : List ℕ) : Type 0 where
   pub signature : Signature
   pub known : slice_get names.signatures func ≡ Some signature
   pub name : signature.name ≡ word
@@ -112,9 +129,12 @@ pub record IsByCases (names : NameList) (func : ℕ) (word : Word) (count : ℕ)
   pub result : signature.result ≡ Num
   pub few : count ≤ most_arguments
   pub constants : HasPlainConstants names
+  pub distinct : AreDistinct (function_words names)
   pub own : funcs ≡ func ∷ []
-  pub all : All (IsCaseClause names word count cases) clauses
-  pub sorted : All (IsNumCase names count) cases
+  pub lower : All (IsLowerFunction names) applied
+  pub others : is_place applied func ≡ false
+  pub all : All (IsCaseClause names word count cases applied) clauses
+  pub sorted : All (IsNumCase names count applied) cases
   pub apart : AreDisjoint cases
   pub ordered : All IsInOrder cases
 
