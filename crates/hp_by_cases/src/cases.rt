@@ -1,5 +1,6 @@
 //! Functions by cases. Each clause has an instance at each application, and the table has a row for each application and
-//! then one for each case, with its lower bound, or its upper one where there is no lower one.
+//! then one for each case, with its lower bound, or its upper one where there is no lower one. Bounds may apply lower
+//! functions.
 ghost use Rattle.std.specs.Prelude.{◌≡◌, ◌<◌, [], ◌∷◌, ◌++◌, IfOk, length, Some, slice_get};
 ghost use Rattle.hp_defs.specs.declared.names.Signature.{Signature};
 ghost use Rattle.hp_base.specs.Making.{keep};
@@ -18,7 +19,8 @@ use hp_norm::FlatClause;
 use hp_num::{Frac, List, Text};
 use std::alloc::{AllocError, Global};
 
-/// A function by cases: its clauses, over the words of its arguments, and its cases in their order.
+/// A function by cases: its clauses, over the words of its arguments, its cases in their order, and the lower functions that
+/// the bounds of these apply.
 #[derive(Drop)]
 pub struct Cases {
     func: u32,
@@ -26,6 +28,7 @@ pub struct Cases {
     args: u8,
     clauses: List<FlatClause>,
     cases: List<Case>,
+    applied: List<u32>,
     own: List<u32>,
 }
 
@@ -34,17 +37,19 @@ impl Cases {
     ghost use Rattle.hp_by_cases.specs.Made.{cases_at};
 
     /// The class of the function at a place in the order of declarations, counted from 0, with its clauses over the words of
-    /// its arguments and its cases. `Err` says that memory was wanting.
+    /// its arguments, its cases, and the places of the functions of num to num that the bounds of these apply, of which it is
+    /// none. `Err` says that memory was wanting.
     pub fn new(
         alloc: Global,
         names: &Names,
         func: u32,
         clauses: List<FlatClause>,
         cases: List<Case>,
+        applied: List<u32>,
     ) -> Result<Cases, AllocError>
         requires known { func < length names.now.signatures }
-        requires by_cases { (s : Signature) → slice_get names.now.signatures func ≡ Some s → IsByCases names.now func s.name (length s.args) clauses cases (func ∷ []) }
-        ensures made { (s : Signature) → slice_get names.now.signatures func ≡ Some s → IfOk result (λ c. c ≡ cases_at func s clauses cases) }
+        requires by_cases { (s : Signature) → slice_get names.now.signatures func ≡ Some s → IsByCases names.now func s.name (length s.args) clauses cases applied (func ∷ []) }
+        ensures made { (s : Signature) → slice_get names.now.signatures func ≡ Some s → IfOk result (λ c. c ≡ cases_at func s clauses cases applied) }
         ensures lent { IfOk result (λ c. ⟦<Cases as LocalClass>⟧.IsLent c names.now) }
     {
         let signature = names.signature(func);
@@ -56,6 +61,7 @@ impl Cases {
             args: signature.args.len() as u8,
             clauses,
             cases,
+            applied,
             own,
         })
     }
@@ -64,11 +70,11 @@ impl Cases {
 impl LocalClass for Cases {
     ghost own = { λ c. c.own };
 
-    ghost applied = { λ _. [] };
+    ghost applied = { λ c. c.applied };
 
     ghost clauses = { λ c. c.clauses };
 
-    ghost IsLent = { λ c names. IsByCases names c.func c.word c.args c.clauses c.cases c.own };
+    ghost IsLent = { λ c names. IsByCases names c.func c.word c.args c.clauses c.cases c.applied c.own };
 
     ghost grow_of = { λ _. keep tt };
 
@@ -114,15 +120,15 @@ impl LocalClass for Cases {
         Ok(None)
     }
 
-    ghost stays_lent = { λ c old new lent begins made. cases_stay old new c.func c.word c.args c.clauses c.cases c.own lent begins made };
+    ghost stays_lent = { λ c old new lent begins made. cases_stay old new c.func c.word c.args c.clauses c.cases c.applied c.own lent begins made };
 
-    ghost grows = { λ c done before after lent sound e. nothing_grows (c.own ++ []) done before after sound e };
+    ghost grows = { λ c done before after lent sound e. nothing_grows (c.own ++ c.applied) done before after sound e };
 
-    ghost plan_fits = { λ c names lent made fit. cases_plan_fits names c.func c.word c.args c.clauses c.cases c.own lent made fit };
+    ghost plan_fits = { λ c names lent made fit. cases_plan_fits names c.func c.word c.args c.clauses c.cases c.applied c.own lent made fit };
 
-    ghost applies = { λ c names lent. cases_apply names c.func c.word c.args c.clauses c.cases c.own lent };
+    ghost applies = { λ c names lent. cases_apply names c.func c.word c.args c.clauses c.cases c.applied c.own lent };
 
-    ghost completes = { λ c size done start next names v lent e modelled ready. cases_complete_at arguments_come_back size done start next names v c.func c.word c.args c.clauses c.cases c.own lent e modelled };
+    ghost completes = { λ c size done start next names v lent e modelled ready. cases_complete_at arguments_come_back size done start next names v c.func c.word c.args c.clauses c.cases c.applied c.own lent e modelled };
 
-    ghost fitting = { λ c size names v lent some sorted. cases_fit size names v c.func c.word c.args c.clauses c.cases c.own lent some sorted };
+    ghost fitting = { λ c size names v lent some sorted. cases_fit size names v c.func c.word c.args c.clauses c.cases c.applied c.own lent some sorted };
 }

@@ -14,7 +14,7 @@ add_case_lines-requires-clause-fit c =
     let group = c.args.self.now in
     let names = c.args.g.now.names in
     subst (λ (cs : List FlatClause). PlanFits names cs (cases_plan group.func cs names)) (sym c.as_slice.ensures)
-    (cases_plan_fits names group.func group.word group.args group.clauses group.cases group.own c.requires.lent c.requires.sound.made c.requires.sound.names)
+    (cases_plan_fits names group.func group.word group.args group.clauses group.cases group.applied group.own c.requires.lent c.requires.sound.made c.requires.sound.names)
 
 pub returns-in_err-add_case_lines-clause-made : goal.returns-in_err-add_case_lines-clause-made
 returns-in_err-add_case_lines-clause-made c =
