@@ -45,7 +45,7 @@ use Rattle.hp_ruled.proofs.Shapes.{form_nums}
 -- ---- the group of a function
 -- it is free, by cases that it has, or monotone by one of the clauses with the form over it
 cases_by : (P : Group → Type 0) (func : ℕ) (s : Signature) (ruled : Ruled) → P (Free (free_at func s))
-    → ((branches_of func ruled.branches ≡ [] → ⊥) → P (Cases (cases_at func s (clauses_of func ruled.clauses) (cases_of func ruled.branches))))
+    → ((branches_of func ruled.branches ≡ [] → ⊥) → P (Cases (cases_at func s (clauses_of func ruled.clauses) (cases_of func ruled.branches) [])))
     → P (by_branches func s ruled (branches_of func ruled.branches))
 cases_by P func s ruled free cases = by (branches_of func ruled.branches) refl
   where
@@ -55,7 +55,7 @@ cases_by P func s ruled free cases = by (branches_of func ruled.branches) refl
     by : (bs : List Branch) → branches_of func ruled.branches ≡ bs → P (by_branches func s ruled bs)
     by [] e = free
     by (b ∷ bs) e =
-        subst (λ (own : List Branch). P (Cases (cases_at func s (clauses_of func ruled.clauses) (map case_of own)))) e (cases (λ none. some b bs (sym e ∙ none)))
+        subst (λ (own : List Branch). P (Cases (cases_at func s (clauses_of func ruled.clauses) (map case_of own) []))) e (cases (λ none. some b bs (sym e ∙ none)))
 
 among_by : (P : Group → Type 0) (func : ℕ) (s : Signature) (ruled : Ruled) (clauses : List FlatClause) → P (by_branches func s ruled (branches_of func ruled.branches))
     → ((c : FlatClause) (form : Form) → Contains clauses c → form_of s.name c.vars c.guard c.head ≡ Some form → P (Monotone (monotone_at func s c form))) → P (group_among func s ruled clauses)
@@ -68,7 +68,7 @@ among_by P func s ruled (c ∷ cs) other monotone =
     by rest (Some form) e = monotone c form (contains_first c cs) e
 
 pub group_by : (P : Group → Type 0) (func : ℕ) (s : Signature) (read : Reading) → P (Free (free_at func s))
-    → ((branches_of func read.ruled.branches ≡ [] → ⊥) → P (Cases (cases_at func s (clauses_of func read.ruled.clauses) (cases_of func read.ruled.branches))))
+    → ((branches_of func read.ruled.branches ≡ [] → ⊥) → P (Cases (cases_at func s (clauses_of func read.ruled.clauses) (cases_of func read.ruled.branches) [])))
     → ((c : FlatClause) (form : Form) → Contains read.flats c → form_of s.name c.vars c.guard c.head ≡ Some form → P (Monotone (monotone_at func s c form))) → P (group_from func s read)
 group_by P func s read free cases monotone = among_by P func s read.ruled read.flats (cases_by P func s read.ruled free cases) monotone
 
@@ -219,7 +219,7 @@ none_among func s ruled (c ∷ cs) none =
 
 -- no clause of such a function has monotone shape
 by_cases : (names : NameList) (read : Reading) → IsReadable names read → (func : ℕ) (s : Signature) → slice_get names.signatures func ≡ Some s → (branches_of func read.ruled.branches ≡ [] → ⊥)
-    → group_from func s read ≡ Cases (cases_at func s (clauses_of func read.ruled.clauses) (cases_of func read.ruled.branches))
+    → group_from func s read ≡ Cases (cases_at func s (clauses_of func read.ruled.clauses) (cases_of func read.ruled.branches) [])
 by_cases names read is func s known some =
     none_among func s read.ruled read.flats (λ c m. none c m (form_of s.name c.vars c.guard c.head) refl) ∙ full (branches_of func read.ruled.branches) refl
   where
@@ -228,7 +228,7 @@ by_cases names read is func s known some =
     none c m (Some form) e =
         absurd (some ((cases_own names read.flats read.ruled is.ruled func).no_monotone c m (form_place names c func s form is.ruled.made known e)))
 
-    full : (bs : List Branch) → branches_of func read.ruled.branches ≡ bs → by_branches func s read.ruled bs ≡ Cases (cases_at func s (clauses_of func read.ruled.clauses) (map case_of bs))
+    full : (bs : List Branch) → branches_of func read.ruled.branches ≡ bs → by_branches func s read.ruled bs ≡ Cases (cases_at func s (clauses_of func read.ruled.clauses) (map case_of bs) [])
     full [] e = absurd (some e)
     full (b ∷ bs) e = refl
 

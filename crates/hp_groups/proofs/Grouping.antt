@@ -78,10 +78,10 @@ none_free func s ruled = by (branches_of func ruled.branches)
 
 -- and one with some is by these
 pub some_cases : (func : ℕ) (s : Signature) (ruled : Ruled) → (length (cases_of func ruled.branches) ≡ 0 → ⊥)
-    → by_branches func s ruled (branches_of func ruled.branches) ≡ Cases (cases_at func s (clauses_of func ruled.clauses) (cases_of func ruled.branches))
+    → by_branches func s ruled (branches_of func ruled.branches) ≡ Cases (cases_at func s (clauses_of func ruled.clauses) (cases_of func ruled.branches) [])
 some_cases func s ruled = by (branches_of func ruled.branches)
   where
-    by : (bs : List Branch) → (length (map case_of bs) ≡ 0 → ⊥) → by_branches func s ruled bs ≡ Cases (cases_at func s (clauses_of func ruled.clauses) (map case_of bs))
+    by : (bs : List Branch) → (length (map case_of bs) ≡ 0 → ⊥) → by_branches func s ruled bs ≡ Cases (cases_at func s (clauses_of func ruled.clauses) (map case_of bs) [])
     by [] n = absurd (n refl)
     by (b ∷ bs) n = refl
 
@@ -164,10 +164,11 @@ module _ (names : NameList) (clauses : List FlatClause) (ruled : Ruled) (order :
   group_is = let same = w ∙ ap (place_words names.signatures) f in λ i. Arrays (arrays_at (f i) (same i) (o i))
 
 -- what the class of cases asks for
-pub by_these : (names : NameList) (clauses : List FlatClause) (ruled : Ruled) (func : ℕ) (own : List FlatClause) (cases : List Case) → AreRuled names clauses ruled
-    → All IsUnmet (pairs_from ruled.branches 0 (length names.signatures)) → own ≡ clauses_of func ruled.clauses → cases ≡ cases_of func ruled.branches → (length cases ≡ 0 → ⊥)
-    → (s : Signature) → slice_get names.signatures func ≡ Some s → IsByCases names func s.name (length s.args) own cases (func ∷ [])
-by_these names clauses ruled func own cases are unmet o k some s known =
-    subst (λ (found : List FlatClause). IsByCases names func s.name (length s.args) found cases (func ∷ [])) (sym o)
-    (subst (λ (found : List Case). IsByCases names func s.name (length s.args) (clauses_of func ruled.clauses) found (func ∷ [])) (sym k)
-    (functions_by_cases flattened_is_flat flattened_has_one names clauses ruled are unmet func s known (not_none func ruled (λ none. some (ap length k ∙ none)))))
+pub by_these : (names : NameList) (clauses : List FlatClause) (ruled : Ruled) (func : ℕ) (own : List FlatClause) (cases : List Case) (lower : List ℕ) → AreRuled names clauses ruled
+    → All IsUnmet (pairs_from ruled.branches 0 (length names.signatures)) → own ≡ clauses_of func ruled.clauses → cases ≡ cases_of func ruled.branches → lower ≡ [] → (length cases ≡ 0 → ⊥)
+    → (s : Signature) → slice_get names.signatures func ≡ Some s → IsByCases names func s.name (length s.args) own cases lower (func ∷ [])
+by_these names clauses ruled func own cases lower are unmet o k none some s known =
+    subst (λ (fs : List ℕ). IsByCases names func s.name (length s.args) own cases fs (func ∷ [])) (sym none)
+    (subst (λ (found : List FlatClause). IsByCases names func s.name (length s.args) found cases [] (func ∷ [])) (sym o)
+    (subst (λ (found : List Case). IsByCases names func s.name (length s.args) (clauses_of func ruled.clauses) found [] (func ∷ [])) (sym k)
+    (functions_by_cases flattened_is_flat flattened_has_one names clauses ruled are unmet func s known (not_none func ruled (λ empty. some (ap length k ∙ empty))))))

@@ -29,10 +29,10 @@ pub record Reading : Type 0 where
   pub ruled : Ruled
 
 -- ---- the group of a function
--- free without cases
+-- free without cases; the bounds of cases apply no function
 abbrev pub by_branches : ℕ → Signature → Ruled → List Branch → Group
 by_branches func s ruled [] = Free (free_at func s)
-by_branches func s ruled (b ∷ bs) = Cases (cases_at func s (clauses_of func ruled.clauses) (map case_of (b ∷ bs)))
+by_branches func s ruled (b ∷ bs) = Cases (cases_at func s (clauses_of func ruled.clauses) (map case_of (b ∷ bs)) [])
 
 abbrev pub group_with : ℕ → Signature → FlatClause → Option Form → Group → Group
 group_with func s c None other = other

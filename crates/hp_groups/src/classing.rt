@@ -159,6 +159,7 @@ fn by_cases_or_free(
         Ok(Group::Free(Free::new(alloc, names, func)?))
     } else {
         let own = clauses_of(alloc, func, ruled.clauses.as_slice())?;
-        Ok(Group::Cases(Cases::new(alloc, names, func, own, cases)?))
+        let lower = List::new(alloc);
+        Ok(Group::Cases(Cases::new(alloc, names, func, own, cases, lower)?))
     }
 }

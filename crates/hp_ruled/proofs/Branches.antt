@@ -25,7 +25,7 @@ use Rattle.hp_flatten.specs.Laws.{FlattenedHasOne, FlattenedIsFlat}
 use Rattle.hp_cases.specs.declared.case.Bound.{Bound}
 use Rattle.hp_cases.specs.declared.case.Bound.TheVariants.{Low, High, Same}
 use Rattle.hp_cases.specs.Bounds.{head_bound}
-use Rattle.hp_cases.specs.Cases.{HasBound, IsNumTerm, bound_term}
+use Rattle.hp_cases.specs.Cases.{HasBound, bound_term}
 use Rattle.hp_pairs.specs.declared.branch.Branch.{Branch}
 use Rattle.hp_pairs.specs.declared.branch.Given.{Given}
 use Rattle.hp_pairs.specs.Answers.{BranchIsFit, IsFitGap}
@@ -34,7 +34,7 @@ use Rattle.hp_rules.specs.declared.ruled.Ruled.{Ruled}
 use Rattle.hp_rules.specs.Rules.{first_row, is_num_function, monotone_places, new_branch, nothing_ruled, rows_of, rule_words, with_branches}
 use Rattle.hp_ruled.specs.Laws.{AreRuled, BranchesAreFit, case_of, given_term}
 use Rattle.hp_ruled.proofs.Applications.{all_get, case_able, num_signature}
-use Rattle.hp_ruled.proofs.Guards.{IsRuleAtom, atom_rowed, guard_rules, head_bounds, no_applications, term_rowed}
+use Rattle.hp_ruled.proofs.Guards.{IsBareTerm, IsRuleAtom, atom_rowed, guard_rules, head_bounds, no_applications, term_rowed}
 use Rattle.hp_ruled.proofs.Guards as guards
 use Rattle.hp_ruled.proofs.Numbers.{flat_names}
 use Rattle.hp_ruled.proofs.Placing.{Any, Bounded, GapIs, HasGap, all_placed, any_placed, one_placed}
@@ -51,8 +51,8 @@ module _ (names : NameList) where
     pub args : (s : Signature) → slice_get names.signatures b.func ≡ Some s → b.args ≡ length s.args
     pub guard : All (IsRuleAtom names b.args) b.guard
     pub rowed : rows_of ws b.guard ≡ Ok b.rows
-    pub low : (g : Given) → b.low ≡ Some g → IsNumTerm (flat_names names b.args) g.term
-    pub high : (g : Given) → b.high ≡ Some g → IsNumTerm (flat_names names b.args) g.term
+    pub low : (g : Given) → b.low ≡ Some g → IsBareTerm (flat_names names b.args) g.term
+    pub high : (g : Given) → b.high ≡ Some g → IsBareTerm (flat_names names b.args) g.term
     pub gap : (r : NumLit) → b.gap ≡ Some r → IsNumFit r
 
   pub record BranchSays (b : Branch) : Type 0 where
@@ -64,22 +64,22 @@ module _ (names : NameList) where
   first_fit (l ∷ rows) r h e = let is : l ≡ r = cc in subst IsNumFit is (All-head IsNumFit l rows h)
 
   -- the row of a gap can be decided
-  gap_fit : (b : Branch) (l h : Given) (r : NumLit) → IsNumTerm (flat_names names b.args) l.term → IsNumTerm (flat_names names b.args) h.term → HasGap ws b l h → b.gap ≡ Some r → IsNumFit r
+  gap_fit : (b : Branch) (l h : Given) (r : NumLit) → IsBareTerm (flat_names names b.args) l.term → IsBareTerm (flat_names names b.args) h.term → HasGap ws b l h → b.gap ≡ Some r → IsNumFit r
   gap_fit b l h r low high gap e =
       let atom : Atom = record { left = h.term; cmp = Lt; right = l.term } in
       let is : IsRowed ws atom = record { sorted = guards.sides_num (num_scope ws) atom (term_rowed names b.args h.term high) (term_rowed names b.args l.term low); convex = refl } in
       first_fit gap.rows r (rows_fit ws (atom ∷ []) gap.rows (All-cons (IsRowed ws) atom [] is (All-nil (IsRowed ws))) gap.formed) (sym gap.gap ∙ e)
 
   -- a case with a further bound
-  module _ (bound : Bound) (base now : Branch) (h : BranchHas base) (term : IsNumTerm (flat_names names base.args) (bound_term bound)) (b : Bounded ws bound base now) where
-    same_scope : (t : Term) → IsNumTerm (flat_names names base.args) t → IsNumTerm (flat_names names now.args) t
-    same_scope t is = subst (λ n. IsNumTerm (flat_names names n) t) (sym b.args) is
+  module _ (bound : Bound) (base now : Branch) (h : BranchHas base) (term : IsBareTerm (flat_names names base.args) (bound_term bound)) (b : Bounded ws bound base now) where
+    same_scope : (t : Term) → IsBareTerm (flat_names names base.args) t → IsBareTerm (flat_names names now.args) t
+    same_scope t is = subst (λ n. IsBareTerm (flat_names names n) t) (sym b.args) is
 
-    lows : (g : Given) → now.low ≡ Some g → IsNumTerm (flat_names names now.args) g.term
-    lows g e = elim (b.lows g e) [ inl f ↦ same_scope g.term (h.low g f) | inr is ↦ subst (IsNumTerm (flat_names names now.args)) is (same_scope (bound_term bound) term) ]
+    lows : (g : Given) → now.low ≡ Some g → IsBareTerm (flat_names names now.args) g.term
+    lows g e = elim (b.lows g e) [ inl f ↦ same_scope g.term (h.low g f) | inr is ↦ subst (IsBareTerm (flat_names names now.args)) is (same_scope (bound_term bound) term) ]
 
-    highs : (g : Given) → now.high ≡ Some g → IsNumTerm (flat_names names now.args) g.term
-    highs g e = elim (b.highs g e) [ inl f ↦ same_scope g.term (h.high g f) | inr is ↦ subst (IsNumTerm (flat_names names now.args)) is (same_scope (bound_term bound) term) ]
+    highs : (g : Given) → now.high ≡ Some g → IsBareTerm (flat_names names now.args) g.term
+    highs g e = elim (b.highs g e) [ inl f ↦ same_scope g.term (h.high g f) | inr is ↦ subst (IsBareTerm (flat_names names now.args)) is (same_scope (bound_term bound) term) ]
 
     pub case_grown : BranchSays now
     case_grown = record {
@@ -182,7 +182,7 @@ module _ (flatten : FlattenedIsFlat) (has_one : FlattenedHasOne) (names : NameLi
       let one : clause_applications k ≡ at_words a.func n ∷ [] = has_one c a r.one in
       let guard : All (IsRuleAtom names n) k.guard = guard_rules names c a r.arguments able.able.few able.able.flat.guard r.guard able.arguments in
       let only : atoms_applications k.head ≡ at_words a.func n ∷ [] = none_before (atoms_applications k.guard) (atoms_applications k.head) (at_words a.func n) (no_applications names n k.guard guard) one in
-      let term : IsNumTerm (flat_names names n) (bound_term r.bound) = head_bounds names a.func n s able.able.known able.able.result k.head r.bound (at_words a.func n) r.head flat.head only in
+      let term : IsBareTerm (flat_names names n) (bound_term r.bound) = head_bounds names a.func n s able.able.known able.able.result k.head r.bound (at_words a.func n) r.head flat.head only in
       let fresh : BranchHas names (new_branch f n k r.rows) = record {
         num = r.num;
         args = λ t e. able.count ∙ ap (λ (x : Signature). length x.args) (same_signature names.signatures f s t able.there e);
@@ -196,7 +196,7 @@ module _ (flatten : FlattenedIsFlat) (has_one : FlattenedHasOne) (names : NameLi
       (λ now b. case_grown names r.bound (new_branch f n k r.rows) now fresh term b)
       (λ old now e same p b.
       let count : old.args ≡ n = p.has.args s (ap (slice_get names.signatures) e ∙ able.there) ∙ sym able.count in
-      case_grown names r.bound old now p.has (subst (λ m. IsNumTerm (flat_names names m) (bound_term r.bound)) (sym count) term) b)
+      case_grown names r.bound old now p.has (subst (λ m. IsBareTerm (flat_names names m) (bound_term r.bound)) (sym count) term) b)
       before.branches r.branches r.cased all.branches in
       let here : ClauseSays names r.branches (record { func = f; clause = k }) = record {
         word = a.func;

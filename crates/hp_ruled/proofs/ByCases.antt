@@ -9,21 +9,25 @@ use Rattle.hp_math.proofs.Field.{by_lt_ℚ, ≤ℚ_refl}
 use Rattle.hp_tree.specs.declared.problem.Atom.{Atom}
 use Rattle.hp_tree.specs.declared.problem.Cmp.TheVariants.{Lt}
 use Rattle.hp_tree.specs.declared.problem.Sort.TheVariants.{Num}
+use Rattle.hp_tree.specs.declared.term.Term.{Apply}
 use Rattle.hp_tree.specs.Value.{Word, Environment, Functions, all_true, value}
 use Rattle.hp_terms.specs.Sorting.{sort_of}
 use Rattle.hp_lit.specs.declared.literal.NumLit.{NumLit}
 use Rattle.hp_lit.specs.Truth.{Values, NumIsTrue}
 use Rattle.hp_defs.specs.declared.names.Signature.{Signature}
 use Rattle.hp_defs.specs.Names.{NameList}
+use Rattle.hp_class.specs.Frame.{is_function}
 use Rattle.hp_class.specs.Small.{HasFewArguments}
 use Rattle.hp_norm.specs.declared.flat.FlatClause.{FlatClause}
 use Rattle.hp_norm.specs.Scopes.{clause_scope}
-use Rattle.hp_flatten.specs.Flattening.{argument_vars, at_words}
+use Rattle.hp_flatten.specs.Flattening.{argument_names, argument_vars}
 use Rattle.hp_flatten.specs.Laws.{AreNum, FlattenedHasOne, FlattenedIsFlat}
 use Rattle.hp_cases.specs.declared.case.Bound.{Bound}
 use Rattle.hp_cases.specs.declared.case.Case.{Case}
-use Rattle.hp_cases.specs.Bounds.{head_bound}
-use Rattle.hp_cases.specs.Cases.{AreApart, AreDisjoint, IsCaseClause, IsInOrder, IsNumAtom, IsNumBound, IsNumCase, IsNumTerm}
+use Rattle.hp_cases.specs.Bounds.{head_bound, head_value}
+use Rattle.hp_cases.specs.Cases.{AreApart, AreDisjoint, IsCaseClause, IsInOrder, IsLowerFunction, IsNumAtom, IsNumBound, IsNumCase, bound_term}
+use Rattle.hp_cases.proofs.Applied.{Passes, none_lower}
+use Rattle.hp_cases.proofs.Heads.{one_application}
 use Rattle.hp_pairs.specs.declared.branch.Branch.{Branch}
 use Rattle.hp_pairs.specs.declared.branch.Given.{Given}
 use Rattle.hp_pairs.specs.Answers.{IsUnmet}
@@ -33,7 +37,7 @@ use Rattle.hp_rules.specs.Rules.{first_row, is_num_function, rows_of, rule_words
 use Rattle.hp_ruled.specs.Laws.{FunctionsAreByCases, case_of, cases_of, clause_of, given_term}
 use Rattle.hp_ruled.proofs.Applications.{all_get, num_signature}
 use Rattle.hp_ruled.proofs.Branches.{BranchSays, ClauseSays, IsOf, all_say, same_signature}
-use Rattle.hp_ruled.proofs.Guards.{IsRuleAtom, atom_rowed, sides_num, term_rowed}
+use Rattle.hp_ruled.proofs.Guards.{IsBareTerm, IsRuleAtom, atom_rowed, sides_num, term_rowed}
 use Rattle.hp_ruled.proofs.Numbers.{flat_names}
 use Rattle.hp_ruled.proofs.Owning.{a_case}
 use Rattle.hp_ruled.proofs.Placing.{Any, GapIs, HasGap}
@@ -185,11 +189,11 @@ module _ (names : NameList) where
           rest (later from func l apart) (back IsUnmet (pairs_behind [] (branches_of from branches)) (pairs_from branches (suc from) count) unmet)
 
   -- ---- num cases
-  num_bound : (n : ℕ) (o : Option Given) → ((g : Given) → o ≡ Some g → IsNumTerm (flat_names names n) g.term) → IsNumBound (flat_names names n) (option_map given_term o)
+  num_bound : (n : ℕ) (o : Option Given) → ((g : Given) → o ≡ Some g → IsBareTerm (flat_names names n) g.term) → IsNumBound names [] (flat_names names n) (option_map given_term o)
   num_bound n None h = tt
-  num_bound n (Some g) h = h g refl
+  num_bound n (Some g) h = (let bare = h g refl in record { sorted = bare.sorted; lower = none_lower (Passes (is_function names [])) g.term bare.free })
 
-  num_case : (b : Branch) → BranchSays names b → IsNumCase names b.args (case_of b)
+  num_case : (b : Branch) → BranchSays names b → IsNumCase names b.args [] (case_of b)
   num_case b says = record {
     guard = All-weaker (IsRuleAtom names b.args) (IsNumAtom (flat_names names b.args)) (λ atom is. is.num) b.guard says.has.guard;
     low = num_bound b.args b.low says.has.low;
@@ -224,19 +228,21 @@ module _ (names : NameList) where
       at false case h = h
 
   pub clause_is : (branches : List Branch) → All (BranchSays names) branches → (k : CaseClause) → ClauseSays names branches k → (s : Signature) → slice_get names.signatures k.func ≡ Some s
-      → IsCaseClause names s.name (length s.args) (cases_of k.func branches) k.clause
+      → IsCaseClause names s.name (length s.args) (cases_of k.func branches) [] k.clause
   clause_is branches all k h s there =
       let word : h.word ≡ s.name = sym (h.named s there) in
       let count : h.count ≡ length s.args = sym (h.counted s there) in
       let f = found k.func h.rows h.bound branches all h.case in
+      let one = one_application h.word h.count k.clause.guard k.clause.head h.bound h.head h.one in
       record {
         flat = h.flat;
         vars = h.vars ∙ ap argument_vars count;
         bound = h.bound;
         head = ap (λ w. head_bound w k.clause.head) (sym word) ∙ h.head;
+        value = ap (λ w. head_value w k.clause.head) (sym word) ∙ one.1 ∙ (λ i. Some (Apply (word i) (argument_names (count i))));
+        lower = none_lower (Passes (is_function names [])) (bound_term h.bound) h.free;
         nums = nums k.clause h.count h.vars h.guard;
-        one = h.one ∙ (λ i. at_words (word i) (count i) ∷ []);
-        free = h.free;
+        bare = one.0;
         case = case_of f.branch;
         among = f.there;
         has = f.is.2;
@@ -263,16 +269,19 @@ functions_by_cases flatten has_one names clauses ruled are unmet func s there so
       result = ap (λ (z : Signature). z.result) (sym same) ∙ signature.result;
       few = all_get HasFewArguments names.signatures func s are.few there;
       constants = are.constants;
+      distinct = are.made.functions;
       own = refl;
-      all = All-map (IsCaseClause names s.name (length s.args) (cases_of func ruled.branches)) clause_of (filter (λ k. nat_eq k.func func) ruled.clauses)
-          (filtered (λ k. nat_eq k.func func) (ClauseSays names ruled.branches) (λ k. IsCaseClause names s.name (length s.args) (cases_of func ruled.branches) k.clause)
+      lower = All-nil (IsLowerFunction names);
+      others = refl;
+      all = All-map (IsCaseClause names s.name (length s.args) (cases_of func ruled.branches) []) clause_of (filter (λ k. nat_eq k.func func) ruled.clauses)
+          (filtered (λ k. nat_eq k.func func) (ClauseSays names ruled.branches) (λ k. IsCaseClause names s.name (length s.args) (cases_of func ruled.branches) [] k.clause)
           (λ k e h. let is : k.func ≡ func = eqb-true k.func func e in
-          subst (λ f. IsCaseClause names s.name (length s.args) (cases_of f ruled.branches) k.clause) is
+          subst (λ f. IsCaseClause names s.name (length s.args) (cases_of f ruled.branches) [] k.clause) is
           (clause_is names ruled.branches all.branches k h s (ap (slice_get names.signatures) is ∙ there)))
           ruled.clauses all.clauses);
-      sorted = All-map (IsNumCase names (length s.args)) case_of its
-          (filtered (λ b. nat_eq b.func func) (BranchSays names) (λ b. IsNumCase names (length s.args) (case_of b))
-          (λ b e says. subst (λ n. IsNumCase names n (case_of b)) (says.has.args s (ap (slice_get names.signatures) (eqb-true b.func func e) ∙ there)) (num_case names b says))
+      sorted = All-map (IsNumCase names (length s.args) []) case_of its
+          (filtered (λ b. nat_eq b.func func) (BranchSays names) (λ b. IsNumCase names (length s.args) [] (case_of b))
+          (λ b e says. subst (λ n. IsNumCase names n [] (case_of b)) (says.has.args s (ap (slice_get names.signatures) (eqb-true b.func func e) ∙ there)) (num_case names b says))
           ruled.branches all.branches);
       apart = pairs.disjoint;
       ordered = pairs.ordered;

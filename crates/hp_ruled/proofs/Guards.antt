@@ -28,7 +28,7 @@ use Rattle.hp_flatten.specs.Flattening.{are_arguments, argument_word, equalities
 use Rattle.hp_cases.specs.declared.case.Bound.{Bound}
 use Rattle.hp_cases.specs.declared.case.Bound.TheVariants.{Low, High, Same}
 use Rattle.hp_cases.specs.Bounds.{applies_it, atom_bound, bound_left, bound_right, head_bound}
-use Rattle.hp_cases.specs.Cases.{IsNumAtom, IsNumTerm, bound_term}
+use Rattle.hp_cases.specs.Cases.{IsNumAtom, bound_term}
 use Rattle.hp_rules.specs.Rules.{is_case_atom, is_convex, is_empty, rule_words}
 use Rattle.hp_ruled.proofs.Applications.{HasNumArguments, IsSortedAtom, applications_apply, is_num-Num, sides_sorted}
 use Rattle.hp_ruled.proofs.Numbers.{IsFree, IsNumIn, argument_num, flat_name, flat_names, flat_num, name_free, name_num, nil_parts, num_stays, rule_name}
@@ -39,6 +39,11 @@ use Rattle.hp_ruled.proofs.Truth.{IsRowed, num_scope}
 pub record IsRuleAtom (names : NameList) (count : ℕ) (atom : Atom) : Type 0 where
   pub num : IsNumAtom (flat_names names count) atom
   pub convex : is_convex atom.cmp ≡ true
+
+-- a num term without applications, as a bound of a case is
+pub record IsBareTerm (scope : Scope) (term : Term) : Type 0 where
+  pub sorted : has_form (forms_of scope term) Num ≡ true
+  pub free : applications term ≡ []
 
 pub num_sides : (scope : Scope) (atom : Atom) → is_sorted scope Num atom ≡ true → IsNumIn scope atom.left × IsNumIn scope atom.right
 num_sides scope atom h =
@@ -52,7 +57,7 @@ sides_num scope atom p q =
     let r = has_form (forms_of scope atom.right) Num in
     and_from (l && r) true (and_from l r p q) refl
 
-pub term_rowed : (names : NameList) (count : ℕ) (t : Term) → IsNumTerm (flat_names names count) t → IsNumIn (num_scope (rule_words names)) t
+pub term_rowed : (names : NameList) (count : ℕ) (t : Term) → IsBareTerm (flat_names names count) t → IsNumIn (num_scope (rule_words names)) t
 term_rowed names count t is = num_stays (flat_names names count) (num_scope (rule_words names)) (rule_name names count) t is.sorted is.free
 
 pub atom_rowed : (names : NameList) (count : ℕ) (atom : Atom) → IsRuleAtom names count atom → IsRowed (rule_words names) atom
@@ -185,31 +190,31 @@ module _ (names : NameList) (func : Word) (count : ℕ) (s : Signature) (known :
       let num : sort ≡ Num = sym f.result ∙ ap (λ (p : Profile). p.result) (sym same) ∙ result in
       subst (λ z. has_form (forms_of scope other) z ≡ true) num g
 
-  atom_bounds : (atom : Atom) (bound : Bound) (q : Application) → atom_bound func atom ≡ Some bound → IsSortedAtom scope atom → (applications atom.left ++ applications atom.right) ++ [] ≡ q ∷ [] → IsNumTerm scope (bound_term bound)
+  atom_bounds : (atom : Atom) (bound : Bound) (q : Application) → atom_bound func atom ≡ Some bound → IsSortedAtom scope atom → (applications atom.left ++ applications atom.right) ++ [] ≡ q ∷ [] → IsBareTerm scope (bound_term bound)
   atom_bounds atom bound q e sorted one = by_left (applies_it func (out-Term atom.left)) refl e
     where
-      by_right : (b : Bool) → applies_it func (out-Term atom.right) ≡ b → (if b then bound_left atom.cmp atom.left else None) ≡ Some bound → IsNumTerm scope (bound_term bound)
+      by_right : (b : Bool) → applies_it func (out-Term atom.right) ≡ b → (if b then bound_left atom.cmp atom.left else None) ≡ Some bound → IsBareTerm scope (bound_term bound)
       by_right false t e = absurd (cc)
       by_right true t e =
           let is = apply_is func atom.right t in
           let sides = sides_sorted scope atom sorted in
-          subst (IsNumTerm scope) (left_is atom.cmp atom.left bound e) (record {
+          subst (IsBareTerm scope) (left_is atom.cmp atom.left bound e) (record {
             sorted = num_side atom.right atom.left (sort_of scope atom) is.0 is.1 sides.1 sides.0;
             free = before_one (record { func = func; args = is.0 }) q (applications atom.left) _ (ap (λ xs. (applications atom.left ++ xs) ++ []) (sym (ap applications is.1 ∙ applications_apply func is.0)) ∙ one);
           })
 
       by_left : (b : Bool) → applies_it func (out-Term atom.left) ≡ b
-          → (if b then bound_right atom.cmp atom.right else (if applies_it func (out-Term atom.right) then bound_left atom.cmp atom.left else None)) ≡ Some bound → IsNumTerm scope (bound_term bound)
+          → (if b then bound_right atom.cmp atom.right else (if applies_it func (out-Term atom.right) then bound_left atom.cmp atom.left else None)) ≡ Some bound → IsBareTerm scope (bound_term bound)
       by_left false t e = by_right (applies_it func (out-Term atom.right)) refl e
       by_left true t e =
           let is = apply_is func atom.left t in
           let sides = sides_sorted scope atom sorted in
-          subst (IsNumTerm scope) (right_is atom.cmp atom.right bound e) (record {
+          subst (IsBareTerm scope) (right_is atom.cmp atom.right bound e) (record {
             sorted = num_side atom.left atom.right (sort_of scope atom) is.0 is.1 sides.0 sides.1;
             free = behind_one (record { func = func; args = is.0 }) q _ (applications atom.right) (ap (λ xs. (xs ++ applications atom.right) ++ []) (sym (ap applications is.1 ∙ applications_apply func is.0)) ∙ one);
           })
 
-  pub head_bounds : (head : List Atom) (bound : Bound) (q : Application) → head_bound func head ≡ Some bound → All (IsSortedAtom scope) head → atoms_applications head ≡ q ∷ [] → IsNumTerm scope (bound_term bound)
+  pub head_bounds : (head : List Atom) (bound : Bound) (q : Application) → head_bound func head ≡ Some bound → All (IsSortedAtom scope) head → atoms_applications head ≡ q ∷ [] → IsBareTerm scope (bound_term bound)
   head_bounds [] bound q e sorted one = absurd (cc)
   head_bounds (atom ∷ []) bound q e sorted one = atom_bounds atom bound q e (All-head (IsSortedAtom scope) atom [] sorted) one
   head_bounds (atom ∷ other ∷ head) bound q e sorted one = absurd (cc)

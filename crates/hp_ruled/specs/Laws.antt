@@ -60,11 +60,11 @@ clause_of k = k.clause
 abbrev pub clauses_of : ℕ → List CaseClause → List FlatClause
 clauses_of func clauses = map clause_of (filter (λ k. nat_eq k.func func) clauses)
 
--- it is by these cases
+-- it is by these cases, whose bounds apply no function
 abbrev pub FunctionsAreByCases : Type 0
 FunctionsAreByCases = (names : NameList) (clauses : List FlatClause) (ruled : Ruled) → AreRuled names clauses ruled → All IsUnmet (pairs_from ruled.branches 0 (length names.signatures))
     → (func : ℕ) (s : Signature) → slice_get names.signatures func ≡ Some s → (branches_of func ruled.branches ≡ [] → ⊥)
-    → IsByCases names func s.name (length s.args) (clauses_of func ruled.clauses) (cases_of func ruled.branches) (func ∷ [])
+    → IsByCases names func s.name (length s.args) (clauses_of func ruled.clauses) (cases_of func ruled.branches) [] (func ∷ [])
 
 -- ---- clauses
 -- the clause is flattened, and it is one of a case then
