@@ -1,5 +1,5 @@
 -- Lines of clauses at tuples, one after the other, while definitions are only added.
-use Rattle.std.proofs.Common.{◌≡◌, ◌∙◌, ℕ, zero, suc, ◌+◌, ◌<◌, ◌≤◌, List, [], ◌∷◌, ◌++◌, map, length, take, get_or, Result, Ok, Err, OnOk, refl, sym, ap, subst, add-one, append_assoc, arith}
+use Rattle.std.proofs.Common.{◌≡◌, ◌∙◌, ℕ, zero, suc, ◌+◌, ◌<◌, List, [], ◌∷◌, ◌++◌, map, length, take, get_or, Result, Ok, Err, refl, sym, ap, subst, add-one, append_assoc, arith}
 use Rattle.std.specs.Prelude.{slice_get}
 use Rattle.std.specs.List.{All, Contains}
 use Rattle.std.proofs.lemmas.List.{map-append}
@@ -7,21 +7,18 @@ use Rattle.std.proofs.lemmas.List.Elements.{All-contains, All-weaker, Contains-g
 use Rattle.hp_tree.specs.declared.limit.Limit.{Limit}
 use Rattle.hp_lit.specs.declared.line.Arg.{Arg}
 use Rattle.hp_lit.specs.declared.line.Def.{Def}
-use Rattle.hp_lit.specs.declared.refusal.GroundErr.{GroundErr}
 use Rattle.hp_local.proofs.Lists.{All-by, contains_map}
 use Rattle.hp_defs.specs.declared.names.Ground.{Ground}
 use Rattle.hp_defs.specs.Made.{IsMade}
 use Rattle.hp_defs.specs.Names.{NameList}
 use Rattle.hp_base.specs.Congruence.{point_of}
-use Rattle.hp_base.specs.Making.{Begins, Maker, Makes, ◌then◌, in_turn}
+use Rattle.hp_base.specs.Making.{Begins, Maker, ◌then◌, in_turn}
 use Rattle.hp_base.proofs.Making.{begins_names}
 use Rattle.hp_base.proofs.Places.{got}
 use Rattle.hp_norm.specs.declared.flat.FlatClause.{FlatClause}
-use Rattle.hp_norm.specs.Sound.{IsSound}
 use Rattle.hp_instance.specs.declared.tuple.Tuple.{Tuple}
 use Rattle.hp_instance.specs.Instances.{instance}
 use Rattle.hp_instance.specs.Laws.{TupleFits}
-use Rattle.hp_instance.proofs.InstancesSay.{instances_say}
 use Rattle.hp_class.specs.Group.{PlanFits, Planned, PlannedFits, plan_lines, planned_lines}
 use Rattle.hp_class.specs.Places.{point_at, points_at}
 use Rattle.hp_class.specs.Points.{points}

@@ -1,12 +1,12 @@
 -- The rows of cases fit the rules on sorts, and apply lower functions alone.
-use Rattle.std.proofs.Common.{◌≡◌, ◌∙◌, ℕ, zero, suc, ◌<◌, ◌≤◌, List, [], ◌∷◌, ◌++◌, map, length, take, Bool, true, false, ◌&&◌, cond, nat_lt, IsTrue, Option, Some, None, refl, sym, ap, subst, arith, pos}
+use Rattle.std.proofs.Common.{◌≡◌, ◌∙◌, ℕ, zero, suc, ◌<◌, ◌≤◌, List, [], ◌∷◌, map, length, take, Bool, true, false, nat_lt, Option, Some, None, refl, sym, ap, subst, arith, pos}
 use Rattle.std.specs.Prelude.{if◌then◌else◌, option_and_then, position, slice_get}
 use Rattle.std.specs.Option.{option_or}
 use Rattle.std.specs.List.{All, list_all}
 use Rattle.std.specs.Str.{bytes_eq}
 use Rattle.std.proofs.lemmas.Bool.{and_from, ltb-true}
 use Rattle.std.proofs.lemmas.Option.{slice_get_within}
-use Rattle.std.proofs.lemmas.List.Elements.{All-cons, All-head, All-map, All-nil, All-tail, All-weaker}
+use Rattle.std.proofs.lemmas.List.Elements.{All-head, All-map, All-tail, All-weaker}
 use Rattle.hp_math.specs.Rational.{ℚ, lt_ℚ, neg_ℚ, whole}
 use Rattle.hp_tree.specs.declared.problem.Atom.{Atom}
 use Rattle.hp_tree.specs.declared.problem.Sort.{Sort}
@@ -21,7 +21,6 @@ use Rattle.hp_terms.specs.Sorting.{atom_is_sorted, first_sort, first_step, forms
 use Rattle.hp_names.specs.Names.{AreDistinct}
 use Rattle.hp_names.proofs.Texts.{same_text}
 use Rattle.hp_lit.specs.Truth.{Values, name_value}
-use Rattle.hp_defs.specs.declared.names.Constant.{Constant}
 use Rattle.hp_defs.specs.Names.{NameList, constant_sort, function_words, profile_of, sort_of_definition, sorts, words}
 use Rattle.hp_defs.proofs.Lists.{get_front}
 use Rattle.hp_base.proofs.ArgsDefined.{get_map}
@@ -29,7 +28,7 @@ use Rattle.hp_base.specs.Lines.{flat_scope}
 use Rattle.hp_local.specs.Applied.{applies_only, applies_step, atom_applies, row_applies}
 use Rattle.hp_local.specs.Cases.{case_row, case_term}
 use Rattle.hp_local.specs.Rows.{argument_words, number_term}
-use Rattle.hp_local.specs.Sorts.{HaveSorts, IsSortedCase, IsSortedRow}
+use Rattle.hp_local.specs.Sorts.{HaveSorts, IsSortedCase}
 use Rattle.hp_local.specs.Substitution.{substitute, substitute_atom}
 use Rattle.hp_local.proofs.Folds.{substitutes_apply_the_same}
 use Rattle.hp_local.proofs.Sorts.{numbers_are_sorted, zero_sorted}

@@ -1,9 +1,9 @@
 -- Functions by cases complete what is true at their applications.
 use Rattle.std.proofs.Common.{◌≡◌, ◌∙◌, ◌≤◌, ◌||◌, ℕ, suc, List, [], ◌∷◌, ◌++◌, Bool, true, false, IsTrue, length, map, Option, Some, None, Ok, refl, sym, ap, subst}
 use Rattle.std.specs.Prelude.{slice_get}
-use Rattle.std.specs.List.{All, AllZip, Contains, list_any}
+use Rattle.std.specs.List.{All, Contains}
 use Rattle.std.specs.Str.{bytes_eq}
-use Rattle.std.proofs.lemmas.List.Elements.{All-cons, All-contains, All-head, All-map, All-nil, All-tail, All-weaker}
+use Rattle.std.proofs.lemmas.List.Elements.{All-contains, All-map, All-weaker}
 use Rattle.hp_math.specs.Rational.{ℚ, ◌≤ℚ◌}
 use Rattle.hp_tree.specs.Limits.{most_arguments}
 use Rattle.hp_tree.specs.declared.term.Term.{Term}
@@ -18,7 +18,7 @@ use Rattle.hp_defs.specs.Made.{IsMade}
 use Rattle.hp_defs.specs.Names.{BeginsNames, NameList, sorts}
 use Rattle.hp_model.specs.declared.structure.Table.{Table}
 use Rattle.hp_model.specs.Value.{with_arguments}
-use Rattle.hp_local.specs.Cases.{AreApart, AreDisjoint, Case as local_case, IsInOrder, IsOfCase, PointsAreTrue, case_table}
+use Rattle.hp_local.specs.Cases.{AreApart, AreDisjoint, IsInOrder, IsOfCase, PointsAreTrue, case_table}
 use Rattle.hp_local.specs.Frame.{Fact, Frame, IsTrueWithPoints}
 use Rattle.hp_local.specs.Law.{Completes}
 use Rattle.hp_local.specs.Rows.{HaveArguments, own_facts}

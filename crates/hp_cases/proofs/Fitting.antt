@@ -1,11 +1,10 @@
 -- The arguments of an application fit each clause of its function, however large their numbers are.
-use Rattle.std.proofs.Common.{◌≡◌, ◌∙◌, ◌⊎◌, inl, inr, ℕ, zero, suc, ◌+◌, ◌≤◌, List, [], ◌∷◌, ◌++◌, map, length, take, Bool, true, false, ◌&&◌, cond, Option, Some, None, option_map, refl, sym, ap, subst, arith}
+use Rattle.std.proofs.Common.{◌≡◌, ◌∙◌, ◌⊎◌, inl, inr, ℕ, zero, suc, ◌≤◌, List, [], ◌∷◌, ◌++◌, map, length, take, Bool, true, false, ◌&&◌, Option, Some, refl, sym, ap, subst, arith}
 use Rattle.std.specs.Prelude.{if◌then◌else◌, slice_get}
 use Rattle.std.specs.List.{All, AllZip, Contains}
 use Rattle.std.specs.Str.{bytes_eq}
 use Rattle.std.proofs.lemmas.Bool.{and_parts}
 use Rattle.std.proofs.lemmas.List.Elements.{All-contains, All-cons, All-head, All-nil, All-tail, All-weaker}
-use Rattle.hp_math.specs.Rational.{ℚ}
 use Rattle.hp_tree.specs.Limits.{most_arguments}
 use Rattle.hp_tree.specs.declared.term.Term.{Term, Apply, Name, Number, fold-roll-Term, map-Term, roll-Term}
 use Rattle.hp_tree.specs.declared.term.Term.TheOpen.{Term-F}
@@ -31,7 +30,7 @@ use Rattle.hp_base.specs.Congruence.{Point}
 use Rattle.hp_norm.specs.declared.flat.FlatClause.{FlatClause}
 use Rattle.hp_norm.specs.Flat.{IsFlat}
 use Rattle.hp_norm.specs.Loads.{IsLightWithin, Load, argument_sorts, arguments_load, load, load_step, places_of}
-use Rattle.hp_norm.specs.Scopes.{clause_scope, function_profile, term_scope}
+use Rattle.hp_norm.specs.Scopes.{clause_scope, term_scope}
 use Rattle.hp_instance.specs.declared.tuple.Tuple.{Tuple}
 use Rattle.hp_instance.specs.Laws.{IsLightAt, TupleFits}
 use Rattle.hp_instance.specs.Replacing.{arg_term, arg_terms, name_word, replaced_word, replacement}

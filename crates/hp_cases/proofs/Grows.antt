@@ -1,7 +1,7 @@
 -- The lines of a function by cases make definitions by applications of lower functions alone.
-use Rattle.std.proofs.Common.{◌≡◌, ◌∙◌, ℕ, List, [], ◌∷◌, map, length, Some, Ok, refl, sym, ap, subst}
+use Rattle.std.proofs.Common.{◌≡◌, ◌∙◌, ℕ, List, [], ◌∷◌, map, Ok, refl, sym, ap, subst}
 use Rattle.std.specs.Prelude.{slice_get}
-use Rattle.std.specs.List.{All, AllZip, Contains}
+use Rattle.std.specs.List.{Contains}
 use Rattle.std.proofs.lemmas.List.Elements.{All-contains, All-nil}
 use Rattle.hp_tree.specs.Value.{Word}
 use Rattle.hp_defs.specs.declared.names.Ground.{Ground}
@@ -10,7 +10,7 @@ use Rattle.hp_defs.specs.Fit.{ArgFits}
 use Rattle.hp_defs.specs.Names.{function_words, sorts}
 use Rattle.hp_local.proofs.Lists.{contains_first, contains_later, contains_map, map_contains}
 use Rattle.hp_base.specs.Congruence.{Point}
-use Rattle.hp_base.specs.Making.{Begins, Maker, ◌then◌, in_turn}
+use Rattle.hp_base.specs.Making.{Begins, Maker, in_turn}
 use Rattle.hp_base.proofs.ArgsSteps.{gave}
 use Rattle.hp_base.proofs.Growing.{came}
 use Rattle.hp_base.proofs.Making.{begins_names, begins_same, begins_trans}
@@ -32,7 +32,7 @@ use Rattle.hp_cases.specs.declared.case.Case.{Case}
 use Rattle.hp_cases.specs.Cases.{IsByCases, IsCaseClause, cases_plan, point_tuple}
 use Rattle.hp_cases.proofs.Fitting.{num_args, zip_length}
 use Rattle.hp_cases.proofs.Laws.{cases_plan_fits, clause_stays}
-use Rattle.hp_cases.proofs.Making.{Grows, instance_grows}
+use Rattle.hp_cases.proofs.Making.{instance_grows}
 use Rattle.hp_cases.proofs.Still.{IsThere, there_later}
 
 -- ---- entries in turn

@@ -1,5 +1,5 @@
 -- What the trait of classes asks of functions by cases.
-use Rattle.std.proofs.Common.{◌≡◌, ◌≤◌, ℕ, List, [], ◌∷◌, ◌++◌, IsTrue, map, length, Ok, Option, Some, None, true, false, ◌&&◌, ◌||◌, Bool, refl, sym, ap, subst, ◌∙◌}
+use Rattle.std.proofs.Common.{◌≡◌, ◌≤◌, ℕ, List, [], ◌∷◌, ◌++◌, map, length, Option, Some, None, true, ◌&&◌, ◌||◌, refl, sym, ap, subst, ◌∙◌}
 use Rattle.std.specs.Prelude.{slice_get}
 use Rattle.std.specs.List.{All, AllZip, Contains}
 use Rattle.std.proofs.lemmas.List.Elements.{All-contains, All-map, All-weaker}
@@ -8,23 +8,17 @@ use Rattle.hp_tree.specs.declared.problem.Atom.{Atom}
 use Rattle.hp_tree.specs.declared.problem.Sort.TheVariants.{Num}
 use Rattle.hp_tree.specs.declared.term.Term.{Term}
 use Rattle.hp_tree.specs.Value.{Word}
-use Rattle.hp_terms.specs.Scope.{Widens}
-use Rattle.hp_terms.specs.Sorting.{atom_is_sorted, forms_of, has_form, is_sorted, relates, sort_of}
+use Rattle.hp_terms.specs.Sorting.{atom_is_sorted, forms_of, has_form, sort_of}
 use Rattle.hp_terms.proofs.Wider.{wider_scopes_keep_forms, wider_scopes_keep_sorts}
 use Rattle.hp_names.proofs.Texts.{text_same}
 use Rattle.hp_defs.specs.declared.names.Constant.{Constant}
 use Rattle.hp_defs.specs.declared.names.Signature.{Signature}
-use Rattle.hp_local.specs.Applied.{clause_applies}
 use Rattle.hp_local.proofs.Lists.{All-by, contains_first, map_contains}
 use Rattle.hp_lit.specs.Truth.{Values}
-use Rattle.hp_defs.specs.declared.names.Ground.{Ground}
 use Rattle.hp_defs.specs.Fit.{IsFitNames}
 use Rattle.hp_defs.specs.Made.{IsMade}
 use Rattle.hp_defs.specs.Names.{BeginsNames, NameList}
-use Rattle.hp_local.specs.Law.{Completes}
 use Rattle.hp_norm.specs.declared.flat.FlatClause.{FlatClause}
-use Rattle.hp_instance.specs.Laws.{ArgumentsComeBack}
-use Rattle.hp_norm.specs.Flat.{universal_of}
 use Rattle.hp_norm.specs.Scopes.{clause_scope}
 use Rattle.hp_model.specs.declared.structure.Table.{Table}
 use Rattle.hp_local.specs.Cases.{case_table}
@@ -38,12 +32,12 @@ use Rattle.hp_flatten.specs.declared.application.Application.{Application}
 use Rattle.hp_flatten.specs.Applications.{applications}
 use Rattle.hp_flatten.specs.Flattening.{argument_vars}
 use Rattle.hp_flatten.specs.Laws.{HasPlainConstant}
-use Rattle.hp_class.specs.Group.{PlanFits, Planned, PlannedFits, group_lines}
+use Rattle.hp_class.specs.Group.{PlanFits, Planned, PlannedFits}
 use Rattle.hp_class.specs.Points.{points}
-use Rattle.hp_class.specs.Law.{HasSortedPoints, IsModelled, IsTableAt, group_at}
+use Rattle.hp_class.specs.Law.{HasSortedPoints, IsTableAt}
 use Rattle.hp_tables.proofs.Applies.{AppliesOnly}
 use Rattle.hp_cases.specs.declared.case.Case.{Case}
-use Rattle.hp_cases.specs.Cases.{IsByCases, IsCaseClause, IsLowerFunction, IsNumAtom, IsNumBound, IsNumCase, IsNumTerm, bound_term, cases_plan, cases_tables, point_tuple, table_case}
+use Rattle.hp_cases.specs.Cases.{IsByCases, IsCaseClause, IsNumAtom, IsNumBound, IsNumCase, bound_term, cases_plan, cases_tables, point_tuple, table_case}
 use Rattle.hp_cases.proofs.Applied.{lower_applies}
 use Rattle.hp_cases.proofs.CaseRows.{case_sorted, rows_apply}
 use Rattle.hp_cases.proofs.Fitting.{points_fit}

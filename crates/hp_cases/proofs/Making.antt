@@ -1,5 +1,5 @@
 -- An instance of a clause of cases at an application that is there makes definitions by applications of lower functions alone.
-use Rattle.std.proofs.Common.{◌≡◌, ◌∙◌, ◌⊎◌, inl, inr, ℕ, ◌≤◌, List, [], ◌∷◌, map, length, Bool, true, false, ◌&&◌, Some, Ok, refl, sym, ap, subst}
+use Rattle.std.proofs.Common.{◌≡◌, ◌∙◌, ◌⊎◌, inl, inr, ℕ, ◌≤◌, List, [], ◌∷◌, map, length, Bool, true, false, Some, Ok, refl, sym, ap, subst}
 use Rattle.std.specs.Prelude.{if◌then◌else◌, slice_get}
 use Rattle.std.specs.List.{All, list_all}
 use Rattle.std.specs.Str.{bytes_eq}
@@ -14,7 +14,6 @@ use Rattle.hp_tree.specs.declared.problem.Var.{Var}
 use Rattle.hp_tree.specs.declared.term.Term.{Term, Apply}
 use Rattle.hp_tree.specs.Value.{Word}
 use Rattle.hp_terms.specs.Occurring.{functions_in}
-use Rattle.hp_terms.specs.Scope.{Scope}
 use Rattle.hp_lit.specs.declared.line.Arg.{Arg}
 use Rattle.hp_lit.specs.declared.line.Arg.TheVariants as arg
 use Rattle.hp_defs.specs.declared.names.Ground.{Ground}
@@ -48,7 +47,7 @@ use Rattle.hp_instance.specs.Replacing.{arg_term, arg_terms, replaced_atoms, rep
 use Rattle.hp_instance.proofs.Replaced.{atoms_have_one_sort}
 use Rattle.hp_class.specs.Frame.{is_function, is_place}
 use Rattle.hp_class.proofs.Passing.{clauses_pass}
-use Rattle.hp_flatten.specs.Flattening.{argument_names, argument_vars}
+use Rattle.hp_flatten.specs.Flattening.{argument_names}
 use Rattle.hp_flatten.specs.Laws.{AreNum}
 use Rattle.hp_tables.proofs.Still.{Still}
 use Rattle.hp_cases.specs.declared.case.Case.{Case}

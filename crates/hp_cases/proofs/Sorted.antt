@@ -1,22 +1,19 @@
 -- Num terms and atoms stay so where num terms stand for their names.
-use Rattle.std.proofs.Common.{◌≡◌, ◌∙◌, ℕ, zero, suc, ◌<◌, ◌≤◌, List, [], ◌∷◌, ◌++◌, map, length, take, Bool, true, false, ◌&&◌, cond, nat_lt, IsTrue, Option, Some, None, refl, sym, ap, subst, arith}
-use Rattle.std.specs.Prelude.{if◌then◌else◌, option_and_then, option_map, position, slice_get, unwrap_or}
+use Rattle.std.proofs.Common.{◌≡◌, ◌∙◌, List, [], ◌∷◌, map, Bool, true, false, ◌&&◌, Option, Some, None, refl, sym, ap, subst}
+use Rattle.std.specs.Prelude.{if◌then◌else◌, option_map, unwrap_or}
 use Rattle.std.specs.Option.{option_or}
-use Rattle.std.specs.List.{All, list_all}
-use Rattle.std.specs.Str.{bytes_eq}
+use Rattle.std.specs.List.{All}
 use Rattle.std.proofs.lemmas.Bool.{and_from, and_parts}
-use Rattle.std.proofs.lemmas.List.Elements.{All-cons, All-head, All-map, All-nil, All-tail}
-use Rattle.hp_math.specs.Rational.{ℚ}
+use Rattle.std.proofs.lemmas.List.Elements.{All-head, All-tail}
 use Rattle.hp_tree.specs.declared.problem.Atom.{Atom}
 use Rattle.hp_tree.specs.declared.problem.Sort.{Sort}
 use Rattle.hp_tree.specs.declared.problem.Sort.TheVariants.{Num, Idx, Ptr}
-use Rattle.hp_tree.specs.declared.term.Term.{Term, Name, fold-roll-Term, map-Term, roll-Term}
+use Rattle.hp_tree.specs.declared.term.Term.{Term, fold-roll-Term, map-Term, roll-Term}
 use Rattle.hp_tree.specs.declared.term.Term.TheOpen.{Term-F}
-use Rattle.hp_tree.specs.declared.term.Term.TheVariants.{rolls-Name}
 use Rattle.hp_tree.specs.Value.{Word}
 use Rattle.hp_terms.specs.declared.forms.Forms.{Forms}
 use Rattle.hp_terms.specs.Scope.{Profile, Scope}
-use Rattle.hp_terms.specs.Sorting.{application_forms, atom_is_sorted, first_sort, first_step, fit, forms_of, forms_step, has_form, is_sorted, name_forms, no_forms, relates, sort_forms, sort_of}
+use Rattle.hp_terms.specs.Sorting.{application_forms, atom_is_sorted, first_sort, first_step, fit, forms_of, forms_step, has_form, is_sorted, name_forms, no_forms, sort_forms, sort_of}
 use Rattle.hp_local.specs.Substitution.{substitute, substitute_atom, substitute_step}
 use Rattle.hp_flatten.specs.declared.application.Application.{Application}
 use Rattle.hp_flatten.specs.Applications.{applications}

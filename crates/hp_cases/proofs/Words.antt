@@ -1,32 +1,29 @@
 -- Words in clauses of cases and in their tables: the words of arguments, constants, and definitions.
-use Rattle.std.proofs.Common.{◌≡◌, ◌∙◌, ℕ, zero, suc, ◌+◌, ◌<◌, ◌≤◌, ◌^◌, List, [], ◌∷◌, ◌++◌, map, length, take, Bool, true, false, ◌||◌, not, cond, nat_eq, nat_lt, get_or, Option, Some, None, option_map, refl, sym, ap, subst, arith}
-use Rattle.std.specs.Prelude.{if◌then◌else◌, option_and_then, position, slice_get, codes}
-use Rattle.std.specs.Option.{option_or}
-use Rattle.std.specs.List.{All, list_any, position_or_len}
+use Rattle.std.proofs.Common.{◌≡◌, ◌∙◌, ℕ, zero, suc, ◌<◌, List, [], ◌∷◌, map, length, take, Bool, true, false, ◌||◌, cond, nat_lt, get_or, Some, None, refl, sym, ap, subst}
+use Rattle.std.specs.Prelude.{if◌then◌else◌, position, slice_get, codes}
+use Rattle.std.specs.List.{All, position_or_len}
 use Rattle.std.proofs.lemmas.Bool.{ltb-true}
 use Rattle.std.proofs.lemmas.List.Sums.{passes_at_first}
 use Rattle.std.specs.Str.{bytes_eq}
 use Rattle.std.proofs.lemmas.List.Elements.{All-head, All-tail}
 use Rattle.std.proofs.lemmas.List.Folds.{list_any-append}
-use Rattle.hp_math.specs.Rational.{ℚ}
 use Rattle.hp_tree.specs.declared.problem.Sort.{Sort}
 use Rattle.hp_tree.specs.declared.problem.Sort.TheVariants.{Num}
-use Rattle.hp_tree.specs.declared.problem.Var.{Var}
-use Rattle.hp_tree.specs.declared.term.Term.{Term, Name}
+use Rattle.hp_tree.specs.declared.term.Term.{Name}
 use Rattle.hp_tree.specs.Value.{Word}
 use Rattle.hp_terms.specs.Words.{numbered}
 use Rattle.hp_names.specs.Names.{is_among}
 use Rattle.hp_names.proofs.Distinct.{absent}
 use Rattle.hp_names.proofs.Texts.{not_both, same_text, text_same}
-use Rattle.hp_lit.specs.Truth.{Values, name_value}
+use Rattle.hp_lit.specs.Truth.{Values}
 use Rattle.hp_defs.specs.declared.names.Constant.{Constant}
 use Rattle.hp_defs.specs.Names.{NameList, constant_name, constant_words, words}
 use Rattle.hp_defs.proofs.Lists.{get_front}
 use Rattle.hp_base.proofs.ArgsDefined.{get_map}
 use Rattle.hp_class.proofs.Places.{got_one}
-use Rattle.hp_local.specs.Rows.{argument_words, number_term}
+use Rattle.hp_local.specs.Rows.{argument_words}
 use Rattle.hp_norm.specs.Scopes.{variable_sort}
-use Rattle.hp_flatten.specs.Flattening.{argument_var, argument_vars}
+use Rattle.hp_flatten.specs.Flattening.{argument_var}
 use Rattle.hp_flatten.specs.Laws.{HasPlainConstant, HasPlainConstants}
 use Rattle.hp_cases.specs.Cases.{valued, word_term}
 

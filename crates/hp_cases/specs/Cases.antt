@@ -1,5 +1,5 @@
 -- A function by cases as a group of one function: the names that it is made for, its instances, and its table.
-use Rattle.std.specs.Prelude.{◌≡◌, ◌≤◌, ℕ, List, [], ◌∷◌, ◌++◌, map, length, position, nat_lt, if◌then◌else◌, Option, Some, None, IsTrue, true, false, slice_get}
+use Rattle.std.specs.Prelude.{◌≡◌, ◌≤◌, ℕ, List, [], ◌∷◌, map, length, position, nat_lt, if◌then◌else◌, Option, Some, None, IsTrue, true, false, slice_get}
 use Rattle.std.specs.List.{All, Contains}
 use Rattle.std.specs.Str.{bytes_eq}
 use Rattle.hp_math.specs.Rational.{◌≤ℚ◌}

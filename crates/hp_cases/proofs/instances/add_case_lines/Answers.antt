@@ -1,4 +1,4 @@
-use Rattle.std.proofs.Common.{◌∙◌, sym}
+use Rattle.std.proofs.Common.{◌∙◌}
 use Rattle.hp_base.specs.Making.{in_turn}
 use Rattle.hp_base.proofs.Making.{begins_same, makes_other}
 use Rattle.hp_class.specs.Group.{plan_lines}

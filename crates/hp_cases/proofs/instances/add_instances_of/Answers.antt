@@ -1,9 +1,8 @@
-use Rattle.std.proofs.Common.{◌∙◌, ◌∷◌, [], refl, sym}
-use Rattle.hp_base.proofs.Making.{begins_same, begins_trans, makes_other}
-use Rattle.hp_instance.specs.declared.tuple.Tuple.{Tuple}
+use Rattle.std.proofs.Common.{◌∙◌, refl}
+use Rattle.hp_base.proofs.Making.{begins_same, begins_trans}
 use Rattle.hp_instance.specs.Instances.{instance}
 use Rattle.hp_instance.proofs.InstancesSay.{instances_say}
-use Rattle.hp_class.proofs.Descending.{turn_made, turn_refused}
+use Rattle.hp_class.proofs.Descending.{turn_made}
 use Rattle.hp_cases.proofs.Adding.{fits_still, same_instance, tuple_fits}
 use Rattle.hp_cases.proofs.instances.add_instances_of.Goals as goal
 

@@ -1,6 +1,5 @@
-use Rattle.std.proofs.Common.{◌≡◌, ◌∙◌, List, IfOk, ap, map, subst, sym}
+use Rattle.std.proofs.Common.{◌≡◌, ◌∙◌, List, IfOk, map, subst, sym}
 use Rattle.hp_instance.specs.declared.tuple.Tuple.{Tuple}
-use Rattle.hp_lit.specs.declared.line.Def.{Def}
 use Rattle.hp_class.specs.Places.{points_at}
 use Rattle.hp_class.proofs.Places.{points_there}
 use Rattle.hp_tables.proofs.InOrder.{all_inside}

@@ -4,7 +4,7 @@ use Rattle.hp_base.specs.Making.{Makes}
 use Rattle.hp_defs.specs.declared.names.Signature.{Signature}
 use Rattle.hp_norm.specs.declared.flat.FlatClause.{FlatClause}
 use Rattle.hp_class.specs.Group.{PlanFits, plan_lines}
-use Rattle.hp_tables.proofs.ClassLaws.{group_made, group_stopped, own_known}
+use Rattle.hp_tables.proofs.ClassLaws.{group_stopped, own_known}
 use Rattle.hp_cases.specs.Cases.{cases_plan}
 use Rattle.hp_cases.proofs.Laws.{cases_plan_fits}
 use Rattle.hp_by_cases.proofs.cases.CasesLocalClass.lines.Goals as goal
