@@ -7,9 +7,16 @@
 mod answer;
 mod cycles;
 mod edges;
+mod kept;
 mod labels;
+mod net;
 mod order;
 mod outcome;
 mod parents;
+mod repair;
+mod row_edges;
+mod state;
+mod walk;
 
 pub use answer::{DiffAnswer, decide};
+pub use kept::Kept;

@@ -1,0 +1,121 @@
+//! Rows that are pushed and popped, with values at which they are true.
+ghost use Rattle.std.specs.Prelude.{◌≡◌, ◌+ℤ◌, ◌≤◌, ◌<◌, ◌+◌, ◌-ℤ◌, ◌≤ℤ◌, ◌^◌, ◌++◌, ◌∷◌, [], pos, neg_ℤ, IfOk, OnErr, length, List as Items, ℕ};
+ghost use Rattle.hp_diff.specs.inner.Settled.{value_at};
+ghost use Rattle.hp_diff.specs.Kept.{AreKept, IsKeepable, IsPushed, kept_value};
+
+use crate::state::{State, add_row, drop_row, empty, make_room};
+use hp_lit::{IdxLit, Name, Step};
+use hp_num::List;
+use std::alloc::{AllocError, Global};
+use std::marker::Model;
+
+/// Bounds on differences of named whole numbers that are kept in order, and values at which all of them are true.
+///
+/// Contracts see the number of names, the rows, and the values of nodes, by which `value` is told.
+#[derive(Drop)]
+pub struct Kept {
+    alloc: Global,
+    names: u32,
+    rows: List<IdxLit>,
+    state: State,
+}
+
+impl Model for Kept {
+    ghost use Rattle.hp_diff.specs.Kept.{KeptRows};
+
+    ghost Value = { KeptRows };
+
+    ghost use Rattle.hp_diff.specs.inner.Inside.{IsInside, kept_rows};
+
+    ghost view = { kept_rows };
+
+    ghost invariant = { IsInside };
+}
+
+/// The value of a node, counted from that of the node for no name; 0 where there is no room for values yet.
+fn offset(values: &[i128], node: usize) -> i128
+    requires node { 0 < length values.now → node < length values.now }
+    requires low { (x : ℕ) → x < length values.now → pos 0 ≤ℤ (value_at values.now x +ℤ pos (10 ^ 37)) }
+    requires high { (x : ℕ) → x < length values.now → value_at values.now x ≤ℤ pos 0 }
+    ensures value { result ≡ value_at values.now node -ℤ value_at values.now 0 }
+    ensures low { neg_ℤ (pos (10 ^ 37)) ≤ℤ result }
+    ensures high { result ≤ℤ pos (10 ^ 37) }
+{
+    if values.len() == 0 {
+        return 0;
+    }
+    values[node] - values[0]
+}
+
+impl Kept {
+    /// No rows over so many names.
+    pub fn new(alloc: Global, names: u32) -> Kept
+        requires { names ≤ 4000 }
+        ensures names { result.names ≡ names }
+        ensures rows { result.rows ≡ [] }
+    {
+        Kept {
+            alloc,
+            names,
+            rows: List::new(alloc),
+            state: empty(alloc),
+        }
+    }
+
+    /// How many rows are kept.
+    pub fn len(&self) -> usize
+        ensures { result ≡ length self.now.rows }
+    {
+        self.rows.len()
+    }
+
+    /// Keeps the row last, or answers a cycle of the rows and it that adds to less than 0. The cycle's steps count the
+    /// rows from 1, and the new one after them. With a cycle, and at `Err`, which says that memory was wanting, the rows
+    /// are as before.
+    pub fn push(&mut self, row: &IdxLit) -> Result<Option<List<Step>>, AllocError>
+        requires few { length self.old.rows < 100000 }
+        requires row { IsKeepable self.old.names row.now }
+        ensures names { self.new.names ≡ self.old.names }
+        ensures pushed { IfOk result (λ found. IsPushed self.old self.new row.now found) }
+        ensures err { OnErr result (self.new.rows ≡ self.old.rows) }
+    {
+        let nodes = self.names as usize + 1;
+        let lit = self.rows.len() as u32 + 1;
+        make_room(self.alloc, &mut self.state, nodes)?;
+        self.rows.push(*row)?;
+        match add_row(self.alloc, &mut self.state, nodes, row, lit) {
+            Ok(None) => Ok(None),
+            Ok(Some(steps)) => {
+                let _ = self.rows.pop();
+                Ok(Some(steps))
+            }
+            Err(error) => {
+                let _ = self.rows.pop();
+                Err(error)
+            }
+        }
+    }
+
+    /// Drops the last row.
+    pub fn pop(&mut self)
+        requires { 0 < length self.old.rows }
+        ensures names { self.new.names ≡ self.old.names }
+        ensures rows { (rows : Items IdxLit) (row : IdxLit) → self.old.rows ≡ rows ++ row ∷ [] → self.new.rows ≡ rows }
+    {
+        let nodes = self.names as usize + 1;
+        if let Some(row) = self.rows.pop() {
+            drop_row(&mut self.state, nodes, &row);
+        }
+    }
+
+    /// The value of a name. With these values of all names every kept row is true.
+    pub fn value(&self, n: Name) -> i128
+        requires { n.0 < self.now.names }
+        ensures value { result ≡ kept_value self.now n.0 }
+        ensures low { neg_ℤ (pos (10 ^ 37)) ≤ℤ result }
+        ensures high { result ≤ℤ pos (10 ^ 37) }
+        ensures keeps { AreKept self.now }
+    {
+        offset(self.state.values.as_slice(), n.0 as usize + 1)
+    }
+}
