@@ -1,11 +1,11 @@
 -- A value of the draft that falls, and what stays true then.
-use Rattle.std.proofs.Common.{◌≡◌, ◌≢◌, ◌⊎◌, ℕ, ◌+◌, ◌^◌, ◌<◌, ◌≤◌, List, length, get_or, set, refl, sym, ap, subst, ◌∙◌, inl, inr, arith, get_or-set_same, get_or-set_other}
+use Rattle.std.proofs.Common.{◌≡◌, ◌≢◌, ◌⊎◌, ℕ, ◌+◌, ◌^◌, ◌<◌, ◌≤◌, List, length, set, refl, sym, ap, subst, ◌∙◌, inl, inr, arith, get_or-set_same, get_or-set_other}
 use Rattle.std.specs.Prelude.{ℤ, pos, ◌+ℤ◌, ◌≤ℤ◌, ◌<ℤ◌}
 use Rattle.std.proofs.lemmas.List.{length-set}
 use Rattle.std.proofs.lemmas.Int.{ints}
 use Rattle.std.proofs.lemmas.Bool.{cases_eq, cases_lt}
 use Rattle.hp_diff.specs.declared.edges.Edge.{Edge}
-use Rattle.hp_diff.specs.inner.Labels.{edge_at, EdgesFit, EdgeFits}
+use Rattle.hp_diff.specs.inner.Labels.{edge_at, EdgesFit}
 use Rattle.hp_diff.specs.inner.Settled.{value_at}
 use Rattle.hp_diff.specs.declared.repair.Work.{Work}
 use Rattle.hp_diff.specs.inner.Net.{number_at, IsNewest}

@@ -1,21 +1,21 @@
 -- Rows and their edges.
-use Rattle.std.proofs.Common.{◌≡◌, ◌⊎◌, ℕ, ◌+◌, ◌-◌, ◌<◌, ◌≤◌, ◌^◌, List, [], ◌∷◌, ◌++◌, length, get_or, map, refl, sym, ap, subst, ◌∙◌, inl, inr, arith, append_assoc, length-append, true, false, Bool, Some, None}
-use Rattle.std.specs.Prelude.{MatchOption, Option, slice_get, ℤ, pos, neg_ℤ, ◌+ℤ◌, ◌-ℤ◌, ◌<ℤ◌, ◌≤ℤ◌}
+use Rattle.std.proofs.Common.{◌≡◌, ◌⊎◌, ℕ, ◌+◌, ◌-◌, ◌<◌, ◌≤◌, ◌^◌, List, [], ◌∷◌, ◌++◌, length, map, refl, sym, ap, subst, ◌∙◌, inl, inr, arith, append_assoc, length-append, true, false, Bool, Some, None}
+use Rattle.std.specs.Prelude.{MatchOption, Option, slice_get, ℤ, ◌+ℤ◌, ◌-ℤ◌, ◌≤ℤ◌}
 use Rattle.std.proofs.lemmas.Int.{ints}
 use Rattle.std.proofs.lemmas.Option.{slice_get-get_or}
 use Rattle.std.proofs.lemmas.List.{append-nil, get_or_default}
 use Rattle.std.proofs.Math.Seq.{get_or-append_seam}
 use Rattle.std.specs.List.{All}
 use Rattle.std.proofs.lemmas.List.Elements.{All-nil, All-cons, All-append}
-use Rattle.hp_math.specs.Rational.{ℚ, whole, ◌-ℚ◌, ◌≤ℚ◌}
+use Rattle.hp_math.specs.Rational.{whole, ◌-ℚ◌, ◌≤ℚ◌}
 use Rattle.hp_lit.specs.declared.literal.Name.{Name}
 use Rattle.hp_lit.specs.declared.literal.IdxLit.{IdxLit}
 use Rattle.hp_lit.specs.declared.literal.Lit.TheVariants.{Idx}
 use Rattle.hp_lit.specs.declared.proof.Step.{Step}
 use Rattle.hp_lit.specs.Truth.{Values, name_value, optional_value, IdxIsTrue}
-use Rattle.hp_lit.specs.Cycle.{turned, IsValidIdx}
+use Rattle.hp_lit.specs.Cycle.{IsValidIdx}
 use Rattle.hp_diff.specs.declared.edges.Edge.{Edge}
-use Rattle.hp_diff.specs.inner.Labels.{edge_at, EdgeFits, EdgesFit, limit_of}
+use Rattle.hp_diff.specs.inner.Labels.{EdgeFits, EdgesFit}
 use Rattle.hp_diff.specs.inner.Settled.{value_at}
 use Rattle.hp_diff.proofs.Limits.{limit_least}
 use Rattle.hp_diff.proofs.Points.{whole_difference, whole_le}

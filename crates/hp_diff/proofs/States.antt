@@ -1,5 +1,5 @@
 -- States with one edge more or less, and their cycles.
-use Rattle.std.proofs.Common.{◌≡◌, ◌⊎◌, ℕ, ◌+◌, ◌-◌, ◌<◌, ◌≤◌, List, [], ◌∷◌, ◌++◌, length, get_or, map, refl, sym, ap, subst, ◌∙◌, inl, inr, arith, append_assoc, add-one, zero, suc, true, false, Bool, Some, None}
+use Rattle.std.proofs.Common.{◌≡◌, ℕ, ◌-◌, ◌<◌, List, [], ◌∷◌, ◌++◌, length, map, refl, sym, ap, subst, ◌∙◌, inl, inr, arith, append_assoc, add-one, zero, suc, true, false, Some, None}
 use Rattle.std.specs.Prelude.{ℤ, pos, ◌+ℤ◌, ◌<ℤ◌, ◌≤ℤ◌}
 use Rattle.std.specs.Option.{option_map}
 use Rattle.std.proofs.lemmas.Option.{slice_get-map}
@@ -24,9 +24,9 @@ use Rattle.hp_diff.specs.declared.net.Net.{Net}
 use Rattle.hp_diff.specs.declared.repair.Work.{Work}
 use Rattle.hp_diff.specs.declared.state.State.{State}
 use Rattle.hp_diff.specs.inner.RowEdges.{node_of, edge_of, back_edges, row_edges, IsEdgeOf, Shows}
-use Rattle.hp_diff.specs.inner.Net.{IsCut, IsLinked, with_edge}
-use Rattle.hp_diff.specs.inner.Repair.{AllHold, AreSame, AreWithin, Holds, IsWork}
-use Rattle.hp_diff.specs.inner.State.{EndsWith, IsAdded, IsBase, IsCutBack, IsReady, IsRowOff, IsState, IsStill}
+use Rattle.hp_diff.specs.inner.Net.{IsCut, with_edge}
+use Rattle.hp_diff.specs.inner.Repair.{AreSame, IsWork}
+use Rattle.hp_diff.specs.inner.State.{EndsWith, IsCutBack, IsReady, IsRowOff, IsState}
 use Rattle.hp_diff.proofs.Linking.{edge_old, edge_last, one_more, snoc_same, linked_more}
 
 pub all_left : {X : Type 0} (P : X → Type 0) (xs ys : List X) → All P (xs ++ ys) → All P xs

@@ -1,5 +1,5 @@
 -- Kept rows with values at which they are true.
-use Rattle.std.specs.Prelude.{◌≡◌, ℕ, ◌+◌, ◌<◌, ◌≤◌, ◌^◌, ℤ, pos, ◌+ℤ◌, ◌-ℤ◌, ◌≤ℤ◌, List, ◌∷◌, [], ◌++◌, Option, Some, None, map, length}
+use Rattle.std.specs.Prelude.{◌≡◌, ℕ, ◌+◌, ◌<◌, ◌^◌, ℤ, pos, ◌+ℤ◌, ◌-ℤ◌, ◌≤ℤ◌, List, ◌∷◌, [], ◌++◌, Option, Some, None, map}
 use Rattle.std.specs.List.{All}
 use Rattle.hp_math.specs.Rational.{whole}
 use Rattle.hp_lit.specs.declared.literal.Name.{Name}

@@ -1,7 +1,8 @@
 //! Bounds on differences of named whole numbers: values that keep all of them, or a cycle of them that adds to less
 //! than 0.
 //!
-//! Rows become edges between numbered nodes; the edges are relaxed until all hold or a walk repeats a node.
+//! Rows become edges between numbered nodes. `decide` decides rows at once: the edges are relaxed until all hold or a walk
+//! repeats a node. `Kept` decides them one by one, as they are pushed and popped.
 #![tactic(auto)]
 
 mod answer;

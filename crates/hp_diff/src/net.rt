@@ -16,7 +16,7 @@ pub struct Net {
     pub first: List<usize>,
 }
 
-/// Adds an edge.
+/// Adds an edge at the end. `Err` says that memory was wanting, and leaves all as it was.
 pub fn link(net: &mut Net, nodes: usize, edge: Edge) -> Result<(), AllocError>
     requires linked { IsLinked nodes net.old }
     requires from { edge.from < nodes }
@@ -38,7 +38,7 @@ pub fn link(net: &mut Net, nodes: usize, edge: Edge) -> Result<(), AllocError>
     }
 }
 
-/// Takes the last edge off.
+/// Takes the last edge off, of which there has to be one.
 pub fn cut(net: &mut Net, nodes: usize)
     requires linked { IsLinked nodes net.old }
     requires fit { EdgesFit nodes net.old.edges }

@@ -1,6 +1,7 @@
 //! The repair of values after an edge was added: nodes whose value falls wait in a queue, and each one's edges are seen
-//! to when its turn comes. It stops where it comes back to the start of the new edge, which shows a cycle, where a value
-//! would be too low, and where the queue is full.
+//! to when its turn comes (Cotton and Maler, Fast and flexible difference constraint propagation for DPLL(T), 2006). It
+//! stops where it comes back to the start of the new edge, which shows a cycle, where a value would be too low, and where
+//! the queue is full.
 ghost use Rattle.std.specs.Prelude.{◌≡◌, ◌≤◌, ◌<◌, ◌+◌, ◌-◌, ◌^◌, pos, ◌+ℤ◌, ◌<ℤ◌, ◌≤ℤ◌, FitsSigned, IsTrue, IfSome, IfNone, length, false, slice_index, ◌⊎◌, ℕ};
 ghost use Rattle.hp_diff.specs.inner.Labels.{edge_at, EdgesFit};
 ghost use Rattle.hp_diff.specs.inner.Settled.{value_at};

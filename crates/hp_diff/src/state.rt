@@ -1,7 +1,7 @@
 //! Linked edges with values that keep all of them, to which an edge is added.
 ghost use Rattle.std.specs.Prelude.{◌≡◌, ◌≤◌, ◌<◌, ◌+◌, ◌++◌, ◌∷◌, [], ◌⊎◌, ◌^◌, ◌+ℤ◌, ◌≤ℤ◌, pos, IfOk, OnOk, OnErr, length, Bool};
-ghost use Rattle.hp_diff.specs.inner.Labels.{EdgeFits};
-ghost use Rattle.hp_diff.specs.inner.RowEdges.{edge_of, row_edges};
+ghost use Rattle.hp_diff.specs.inner.Labels.{EdgeFits, EdgesFit};
+ghost use Rattle.hp_diff.specs.inner.RowEdges.{edge_of, row_edges, ShowsIfAny};
 ghost use Rattle.hp_diff.specs.inner.State.{EndsWith, IsAdded, IsCutBack, IsDecided, IsEmpty, IsReady, IsRowOff, IsState, IsStill, IsZeros, AreZero};
 
 use crate::answer::steps_of;
@@ -47,6 +47,31 @@ fn decide_anew(
     }
 }
 
+/// The steps of the cycle over an edge that leads back, if there is one to be seen.
+fn shown_steps(
+    alloc: Global,
+    state: &State,
+    nodes: usize,
+    back: Option<usize>,
+) -> Result<Option<List<Step>>, AllocError>
+    requires nodes { nodes ≤ 200001 }
+    requires fit { EdgesFit nodes state.now.net.edges }
+    requires parent { length state.now.work.parent ≡ nodes }
+    ensures { IfOk result (λ found. ShowsIfAny state.now.net.edges found) }
+{
+    let edges = state.net.edges.as_slice();
+    let Some(back) = back else {
+        return Ok(None);
+    };
+    match closed_walk(alloc, edges, state.work.parent.as_slice(), nodes, back)? {
+        None => Ok(None),
+        Some(cycle) => {
+            let steps = steps_of(alloc, edges, &cycle)?;
+            Ok(Some(steps))
+        }
+    }
+}
+
 /// Decides all edges, where the values keep all but the last.
 fn decide_last(
     alloc: Global,
@@ -69,37 +94,19 @@ fn decide_last(
         &state.values,
     ) {
         Turn::Go(tail) => {
-            copy_queued(
-                state.work.queue.as_slice(),
-                tail,
-                nodes,
-                state.work.draft.as_slice(),
-                &mut state.values,
-            );
+            let queue = state.work.queue.as_slice();
+            let draft = state.work.draft.as_slice();
+            copy_queued(queue, tail, nodes, draft, &mut state.values);
             Ok(None)
         }
         Turn::Stop(tail, back) => {
-            copy_queued(
-                state.work.queue.as_slice(),
-                tail,
-                nodes,
-                state.values.as_slice(),
-                &mut state.work.draft,
-            );
-            if let Some(back) = back {
-                let parent = state.work.parent.as_slice();
-                if let Some(cycle) = closed_walk(
-                    alloc,
-                    state.net.edges.as_slice(),
-                    parent,
-                    nodes,
-                    back,
-                )? {
-                    let steps = steps_of(alloc, state.net.edges.as_slice(), &cycle)?;
-                    return Ok(Some(steps));
-                }
+            let queue = state.work.queue.as_slice();
+            let values = state.values.as_slice();
+            copy_queued(queue, tail, nodes, values, &mut state.work.draft);
+            match shown_steps(alloc, state, nodes, back)? {
+                Some(steps) => Ok(Some(steps)),
+                None => decide_anew(alloc, state, nodes),
             }
-            decide_anew(alloc, state, nodes)
         }
     }
 }
@@ -253,7 +260,7 @@ fn built(alloc: Global, nodes: usize) -> Result<State, AllocError>
     })
 }
 
-/// Makes room for the nodes, if there is none yet.
+/// Makes room for the nodes, if there is none yet. `Err` says that memory was wanting, and leaves all as it was.
 pub fn make_room(alloc: Global, state: &mut State, nodes: usize) -> Result<(), AllocError>
     requires nodes { nodes ≤ 200001 }
     requires some { 0 < nodes }

@@ -1,6 +1,4 @@
-use Rattle.std.proofs.Common.{rules, subst, ◌<◌, ℕ}
-use Rattle.hp_diff.specs.inner.Labels.{now_at, edge_at}
-use Rattle.hp_diff.specs.declared.labels.Label.{Label}
+use Rattle.std.proofs.Common.{rules, ◌<◌}
 use Rattle.hp_diff.proofs.Limits.{sum_fits_bits, edge_small, label_small}
 use Rattle.hp_diff.proofs.labels.next_label.Goals as goal
 

@@ -1,4 +1,4 @@
-use Rattle.std.proofs.Common.{subst, ℕ, sym, ◌≡◌, ◌+◌, ◌-◌, ◌<◌, length, arith}
+use Rattle.std.proofs.Common.{subst, ℕ, ◌≡◌, ◌+◌, ◌-◌, ◌<◌, length, arith}
 use Rattle.hp_diff.proofs.Lowering.{IsScan, next_scan}
 use Rattle.hp_diff.proofs.repair.scan.Goals as goal
 

@@ -1,4 +1,4 @@
-use Rattle.std.proofs.Common.{refl, ◌∙◌}
+use Rattle.std.proofs.Common.{refl}
 use Rattle.hp_diff.proofs.Steps.{walk_within}
 use Rattle.hp_diff.proofs.States.{shows}
 use Rattle.hp_diff.proofs.state.decide_anew.Goals as goal

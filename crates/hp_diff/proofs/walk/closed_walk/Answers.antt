@@ -1,8 +1,8 @@
-use Rattle.std.proofs.Common.{FitsSigned, rules, ◌∙◌, ◌<ℤ◌, pos, refl, subst, sym, ℕ, arith}
+use Rattle.std.proofs.Common.{FitsSigned, rules, ◌∙◌, ◌<ℤ◌, pos, refl}
 use Rattle.std.specs.Int.{w128}
 use Rattle.std.proofs.lemmas.Int.{to_z-of_z}
 use Rattle.hp_diff.proofs.Limits.{sum_fits, edge_small}
-use Rattle.hp_diff.proofs.Shown.{IsFollowed, next_followed, closed, followed_small}
+use Rattle.hp_diff.proofs.Shown.{next_followed, closed, followed_small}
 use Rattle.hp_diff.proofs.walk.closed_walk.Goals as goal
 
 pub with_bound-sum-requires : goal.with_bound-sum-requires

@@ -1,4 +1,4 @@
-use Rattle.std.proofs.Common.{◌≡◌, ◌<◌, length}
+use Rattle.std.proofs.Common.{◌<◌, length}
 use Rattle.hp_diff.specs.inner.Labels.{edge_at}
 use Rattle.hp_diff.proofs.Shown.{IsFollowed}
 use Rattle.hp_diff.proofs.walk.closed_walk.Given as goal

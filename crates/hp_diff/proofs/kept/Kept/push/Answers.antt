@@ -1,4 +1,4 @@
-use Rattle.std.proofs.Common.{inl, arith, ◌∙◌, sym, ap, length, ◌+◌, ◌∷◌, [], length-append}
+use Rattle.std.proofs.Common.{inl, arith, ◌∙◌, ap, length, ◌+◌, ◌∷◌, [], length-append}
 use Rattle.hp_lit.specs.declared.literal.IdxLit.{IdxLit}
 use Rattle.hp_diff.proofs.RowEdges.{popped, pushed_edges, row_fits, valid_cycle}
 use Rattle.hp_diff.proofs.kept.Kept.push.Goals as goal
