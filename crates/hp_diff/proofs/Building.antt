@@ -1,5 +1,5 @@
 -- The edges of one row more.
-use Rattle.std.proofs.Common.{◌≡◌, ℕ, ◌+◌, ◌-◌, ◌⊎◌, inl, inr, List, [], ◌∷◌, ◌++◌, length, get_or, take, sym, ap, subst, ◌∙◌, arith, true, false, Bool, Some, ℤ, pos, ◌+ℤ◌, ◌≤ℤ◌, ◌^◌}
+use Rattle.std.proofs.Common.{◌≡◌, ℕ, ◌+◌, ◌-◌, ◌⊎◌, ◌≤◌, inl, inr, List, [], ◌∷◌, ◌++◌, length, get_or, take, sym, ap, subst, ◌∙◌, arith, true, false, Bool, Some}
 use Rattle.std.specs.Prelude.{slice_get}
 use Rattle.std.proofs.lemmas.Int.{ints}
 use Rattle.std.proofs.lemmas.List.{take_more}
@@ -10,8 +10,9 @@ use Rattle.std.proofs.lemmas.Option.{slice_get_within, get_or_from_slice_get}
 use Rattle.std.specs.List.{All}
 use Rattle.hp_lit.specs.declared.literal.IdxLit.{IdxLit}
 use Rattle.hp_lit.specs.Cycle.{turned}
+use Rattle.hp_tree.specs.Limits.{largest_bound}
 use Rattle.hp_diff.specs.declared.edges.Edge.{Edge}
-use Rattle.hp_diff.specs.inner.Labels.{EdgesFit, edge_at}
+use Rattle.hp_diff.specs.inner.Labels.{EdgesFit, edge_at, limit_of}
 use Rattle.hp_lit.specs.Fit.{IsSmallBound}
 use Rattle.hp_diff.specs.inner.Edges.{AreEdges, HasEdge, IsCovered, IsEdgeOf, IsOver}
 
@@ -74,8 +75,9 @@ turned_small : (row : IdxLit) (forward : Bool) → IsSmallBound row.bound → Is
 turned_small row true p = p
 turned_small row false p = record { low = (let h = p.high in omega (arith, ints)); high = (let l = p.low in omega (arith, ints)) }
 
-pub edges_fit : (names : List ℕ) (rows : List IdxLit) (edges : List Edge) → All (λ row. IsSmallBound row.bound) rows → AreEdges names rows edges → EdgesFit (length names + 1) edges
-edges_fit names rows edges small a = record {
+pub edges_fit : (names : List ℕ) (rows : List IdxLit) (edges : List Edge) → largest_bound ≤ limit_of (length names + 1)
+    → All (λ row. IsSmallBound row.bound) rows → AreEdges names rows edges → EdgesFit (length names + 1) edges
+edges_fit names rows edges wide small a = record {
   each = λ k h.
       (let p : IsEdgeOf names rows (edge_at edges k) = a.each k _ h in
       let at = (edge_at edges k).lit - 1 in
@@ -84,8 +86,8 @@ edges_fit names rows edges small a = record {
       record {
         to = omega (arith, p.over.to);
         from = omega (arith, p.over.from);
-        low = subst (λ (b : ℤ). pos 0 ≤ℤ (b +ℤ pos (10 ^ 25))) (sym p.over.bound) bound.low;
-        high = subst (λ (b : ℤ). b ≤ℤ pos (10 ^ 25)) (sym p.over.bound) bound.high;
+        low = (let b = p.over.bound in let low = bound.low in omega (arith, ints));
+        high = (let b = p.over.bound in let high = bound.high in omega (arith, ints));
       });
 }
 

@@ -1,3 +1,4 @@
+pub mod Limits
 pub mod Relaxing
 pub mod Rounds
 pub mod Repeats
@@ -6,3 +7,8 @@ pub mod Steps
 pub mod Points
 pub mod Building
 pub mod Shown
+pub mod Linking
+pub mod Lowering
+pub mod Copying
+pub mod States
+pub mod RowEdges

@@ -18,11 +18,11 @@ use Rattle.hp_diff.specs.inner.Settled.{value_at, AreValues}
 use Rattle.hp_diff.specs.Rows.{IsPoint, IsSmallWhole, mentioned}
 use Rattle.hp_diff.specs.inner.Edges.{AreEdges, IsCovered, IsOver, offset_at}
 
-whole_difference : (a b : ℤ) → whole a -ℚ whole b ≡ whole (a -ℤ b)
+pub whole_difference : (a b : ℤ) → whole a -ℚ whole b ≡ whole (a -ℤ b)
 unfolding whole
 whole_difference a b = ap (λ q. ratio a 1 +ℚ q) (ratio-neg b 1 (omega arith)) ∙ ratio-+ a (neg_ℤ b) 1 (omega arith)
 
-whole_le : (a b : ℤ) → a ≤ℤ b → whole a ≤ℚ whole b
+pub whole_le : (a b : ℤ) → a ≤ℤ b → whole a ≤ℚ whole b
 unfolding whole
 whole_le a b h = ratio-≤ a b 1 (omega arith) h
 

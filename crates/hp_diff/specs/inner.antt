@@ -2,3 +2,8 @@ pub mod Labels
 pub mod Cycles
 pub mod Settled
 pub mod Edges
+pub mod RowEdges
+pub mod Net
+pub mod Repair
+pub mod State
+pub mod Inside

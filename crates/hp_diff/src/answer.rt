@@ -66,7 +66,7 @@ fn named_values(
 }
 
 /// The steps over edges of these numbers.
-fn steps_of(alloc: Global, edges: &[Edge], cycle: &[usize]) -> Result<List<Step>, AllocError>
+pub fn steps_of(alloc: Global, edges: &[Edge], cycle: &[usize]) -> Result<List<Step>, AllocError>
     requires { All (λ k. k < length edges.now) cycle.now }
     ensures { IfOk result (λ steps. steps ≡ map (step_at edges.now) cycle.now) }
 {

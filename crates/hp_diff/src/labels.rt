@@ -58,7 +58,7 @@ pub fn latest_label(labels: &Labels, nodes: usize, node: usize) -> Label
 }
 
 /// The sum, where it is less than the old value.
-fn lowered(old: i128, start: i128, bound: i128) -> Option<i128>
+pub fn lowered(old: i128, start: i128, bound: i128) -> Option<i128>
     requires { FitsSigned w128 (start +ℤ bound) }
     ensures lower { IfSome result (λ value. (value ≡ start +ℤ bound) × (value <ℤ old)) }
     ensures none { IfNone result (old ≤ℤ (start +ℤ bound)) }

@@ -87,7 +87,7 @@ fn met_again(
 }
 
 /// The sum with the bound of one edge more.
-fn with_bound(sum: i128, edge: &Edge) -> i128
+pub fn with_bound(sum: i128, edge: &Edge) -> i128
     requires { FitsSigned w128 (sum +ℤ edge.now.bound) }
     ensures { result ≡ sum +ℤ edge.now.bound }
 {

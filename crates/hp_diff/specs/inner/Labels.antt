@@ -1,7 +1,7 @@
 -- Labels: what walks along edges give the nodes.
-use Rattle.std.specs.Prelude.{◌≡◌, ◌⊎◌, Bool, true, false, ℕ, ◌+◌, ◌-◌, ◌*◌, ◌<◌, ◌≤◌, pos, ◌+ℤ◌, ◌≤ℤ◌, ◌<ℤ◌, List, ◌∷◌, [], ◌++◌, length, slice_set}
+use Rattle.std.specs.Prelude.{◌≡◌, ◌⊎◌, Bool, true, false, ℕ, ◌+◌, ◌-◌, ◌*◌, ◌/◌, ◌<◌, ◌≤◌, pos, ◌+ℤ◌, ◌≤ℤ◌, ◌<ℤ◌, List, ◌∷◌, [], ◌++◌, length, slice_set}
 use Rattle.std.proofs.Common.{get_or}
-use Rattle.hp_tree.specs.Limits.{largest_bound}
+use Rattle.hp_tree.specs.Limits.{largest_value}
 use Rattle.hp_diff.specs.declared.edges.Edge.{Edge}
 use Rattle.hp_diff.specs.declared.labels.Label.{Label}
 use Rattle.hp_diff.specs.declared.labels.Labels.{Labels}
@@ -24,12 +24,16 @@ now_at labels x = label_at labels.made (get_or labels.latest x 0)
 abbrev pub with_label : Labels → Label → Labels
 with_label labels l = record { made = labels.made ++ l ∷ []; latest = slice_set labels.latest l.node (length labels.made) }
 
--- an edge between nodes, its bound of a magnitude of at most 10^25
+-- the greatest magnitude of bounds with which no walk over all nodes passes 10^37
+unfoldable pub limit_of : ℕ → ℕ
+limit_of nodes = largest_value / nodes
+
+-- an edge between nodes, its bound of such a magnitude at most
 pub record EdgeFits (nodes : ℕ) (e : Edge) : Type 0 where
   pub to : e.to < nodes
   pub from : e.from < nodes
-  pub low : pos 0 ≤ℤ (e.bound +ℤ pos largest_bound)
-  pub high : e.bound ≤ℤ pos largest_bound
+  pub low : pos 0 ≤ℤ (e.bound +ℤ pos (limit_of nodes))
+  pub high : e.bound ≤ℤ pos (limit_of nodes)
 
 pub record EdgesFit (nodes : ℕ) (edges : List Edge) : Type 0 where
   pub each : (k : ℕ) → k < length edges → EdgeFits nodes (edge_at edges k)
@@ -44,7 +48,7 @@ pub record GoesOn (e : Edge) (p l : Label) : Type 0 where
 -- label number i, which is a root or goes on from an earlier one
 pub record IsLabel (edges : List Edge) (nodes : ℕ) (labels : List Label) (i : ℕ) (l : Label) : Type 0 where
   pub node : l.node < nodes
-  pub low : pos 0 ≤ℤ (l.value +ℤ pos (l.depth * largest_bound))
+  pub low : pos 0 ≤ℤ (l.value +ℤ pos (l.depth * limit_of nodes))
   pub high : l.value ≤ℤ pos 0
   pub made : 0 < l.depth → (l.prev < i) × (l.edge < length edges) × GoesOn (edge_at edges l.edge) (label_at labels l.prev) l
 

@@ -1,9 +1,11 @@
-use Rattle.std.proofs.Common.{◌≤◌, ℕ, List, length, arith}
+use Rattle.std.proofs.Common.{◌≤◌, ◌+◌, ℕ, List, length, arith}
 use Rattle.hp_lit.specs.declared.literal.IdxLit.{IdxLit}
 use Rattle.hp_nodes.specs.Nodes.{AreNames}
 use Rattle.hp_nodes.proofs.Mentions.{names_few}
 use Rattle.hp_diff.specs.Rows.{mentioned}
+use Rattle.hp_tree.specs.Limits.{largest_bound}
 use Rattle.hp_diff.proofs.Building.{edges_fit}
+use Rattle.hp_diff.proofs.Limits.{limit_least}
 use Rattle.hp_diff.proofs.Points.{is_point}
 use Rattle.hp_diff.proofs.Steps.{valid_steps, walk_within}
 use Rattle.hp_diff.proofs.answer.answer_of.Goals as goal
@@ -18,7 +20,9 @@ pub named_values-requires-clause-few : goal.named_values-requires-clause-few
 named_values-requires-clause-few c = at_most _ _ c.requires.few c.requires.names
 
 pub settle-requires-clause-edges : goal.settle-requires-clause-edges
-settle-requires-clause-edges c = edges_fit _ _ _ c.requires.bounds c.requires.edges
+settle-requires-clause-edges c =
+    let most = at_most _ _ c.requires.few c.requires.names in
+    edges_fit _ _ _ (limit_least (length c.args.names.now + 1) largest_bound (omega arith) (omega arith)) c.requires.bounds c.requires.edges
 
 pub returns-in_ok-named-in-Values : goal.returns-in_ok-named-in-Values
 returns-in_ok-named-in-Values c =
