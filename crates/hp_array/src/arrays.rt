@@ -8,8 +8,9 @@ ghost use Rattle.hp_arrays.proofs.Complete.{arrays_complete_at};
 ghost use Rattle.hp_arrays.proofs.Fits.{arrays_fit, arrays_plan_fits};
 ghost use Rattle.hp_arrays.proofs.Grows.{arrays_grow};
 ghost use Rattle.hp_arrays.proofs.Stays.{arrays_stay};
+ghost use Rattle.hp_class.specs.Law.{HaveSortedPoints};
 
-use hp_arrays::{add_elements, add_tuple_lines, array_tables};
+use hp_arrays::{add_elements, array_tables};
 use hp_class::{LocalClass, Slope, add_function_lines};
 use hp_defs::{Ground, Names};
 use hp_index_set::index_set;
@@ -17,6 +18,7 @@ use hp_lit::GroundErr;
 use hp_model::Table;
 use hp_norm::FlatClause;
 use hp_num::{Frac, List, Text};
+use hp_tuple_lines::add_tuple_lines;
 use std::alloc::{AllocError, Global};
 
 /// A group of arrays: their places in the order of declarations, counted from 0, their words in the same order, and the
@@ -62,6 +64,8 @@ impl LocalClass for Arrays {
     ghost grow_of = { λ c. array_elements c.own c.clauses };
 
     ghost plan_of = { λ c. arrays_plan c.own c.clauses };
+
+    ghost ArePlaced = { λ c. HaveSortedPoints c.own };
 
     ghost tables_of = { λ c _ names v. arrays_tables c.own c.words names v };
 
@@ -111,7 +115,7 @@ impl LocalClass for Arrays {
 
     ghost applies = { λ c names lent. arrays_apply names c.own c.words c.clauses lent };
 
-    ghost completes = { λ c size done start next names v lent e modelled ready. arrays_complete_at arguments_come_back size done start next names v c.own c.words c.clauses lent e modelled };
+    ghost completes = { λ c size done start next names v lent e modelled placed ready. arrays_complete_at arguments_come_back size done start next names v c.own c.words c.clauses lent e modelled };
 
-    ghost fitting = { λ c size names v lent some sorted. arrays_fit size names v c.own c.words c.clauses lent some sorted };
+    ghost fitting = { λ c size names v lent made fit have some sorted. arrays_fit size names v c.own c.words c.clauses lent some sorted };
 }

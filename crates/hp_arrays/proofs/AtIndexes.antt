@@ -36,12 +36,13 @@ use Rattle.hp_flatten.specs.Applications.{clause_applications}
 use Rattle.hp_tuples.specs.Tuples.{all_tuples}
 use Rattle.hp_index_set.specs.IndexSet.{applied_at, body_indexes, index_set}
 use Rattle.hp_index_set.proofs.Among.{applied_are_indexes}
-use Rattle.hp_arrays.specs.Arrays.{IsArray, IsRead, arrays_plan, index_tuple}
+use Rattle.hp_arrays.specs.Arrays.{IsArray, IsRead, arrays_plan}
+use Rattle.hp_tuple_lines.specs.TupleLines.{shown_tuple}
 use Rattle.hp_arrays.proofs.ElementsMade.{HasAt, reaches}
 use Rattle.hp_arrays.proofs.Indexes.{HasValue, one_index, value_there}
 use Rattle.hp_arrays.proofs.InstancesMade.{HasElements}
 use Rattle.hp_arrays.proofs.Own.{array_position}
-use Rattle.hp_arrays.proofs.Tuples.{contains_flat_map, get_contains, of_one}
+use Rattle.hp_tuple_lines.proofs.Tuples.{contains_flat_map, get_contains, of_one}
 
 module _ (start next : Ground) (names : NameList) (size : ℕ) (v : Values) (own : List ℕ) (clauses : List FlatClause) (sound : IsSound start) (begins : BeginsNames next.names names)
     (made : IsMade names) (fit : IsFitNames names) (has : HasElements start (index_set own clauses start.names) (arrays_plan own clauses start.names) next) where
@@ -105,8 +106,8 @@ module _ (start next : Ground) (names : NameList) (size : ℕ) (v : Values) (own
         let w = map_contains (arg_value v) set q m in
         let c = read.clause in
         let t = of_one set (length c.vars) w.0 w.1 in
-        let planned : FlatClause → Planned = λ (z : FlatClause). record { clause = z; tuples = map index_tuple (all_tuples set (length z.vars)) } in
-        let all = has.there (planned c) (contains_map planned clauses c read.among) (index_tuple t.0) (contains_map index_tuple (all_tuples set (length c.vars)) t.0 t.1) in
+        let planned : FlatClause → Planned = λ (z : FlatClause). record { clause = z; tuples = map shown_tuple (all_tuples set (length z.vars)) } in
+        let all = has.there (planned c) (contains_map planned clauses c read.among) (shown_tuple t.0) (contains_map shown_tuple (all_tuples set (length c.vars)) t.0 t.1) in
         let at : position (bytes_eq read.application.func) (function_words start.names) ≡ Some func =
         ap (λ (z : Word). position (bytes_eq z) (function_words start.names)) read.function ∙ array_position start.names sound.made func word a in
         let here = All-contains (HasAt (function_words start.names) t.0 next) (clause_applications c) read.application all read.applied func at in

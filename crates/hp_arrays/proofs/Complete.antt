@@ -45,14 +45,16 @@ use Rattle.hp_tuples.specs.Tuples.{all_tuples}
 use Rattle.hp_index_set.specs.IndexSet.{index_set}
 use Rattle.hp_index_set.specs.Laws.{IsFitIndex}
 use Rattle.hp_index_set.proofs.Among.{bounds_are_indexes}
-use Rattle.hp_arrays.specs.Arrays.{IsArray, IsArrayClause, IsArrayGroup, IsRead, arrays_plan, arrays_tables, index_tuple, planned_at}
+use Rattle.hp_arrays.specs.Arrays.{IsArray, IsArrayClause, IsArrayGroup, IsRead, arrays_plan, arrays_tables}
+use Rattle.hp_tuple_lines.specs.TupleLines.{shown_tuple, planned_over}
 use Rattle.hp_arrays.proofs.AtIndexes.{array_at_indexes}
 use Rattle.hp_arrays.proofs.Guards.{clause_over_values, guard_sides, head_sides}
 use Rattle.hp_arrays.proofs.Indexes.{index_whole, some_index}
 use Rattle.hp_arrays.proofs.InstancesMade.{HasElements, IsPlannedOver, IsTupleOver, TakeIndexes, group_elements}
-use Rattle.hp_arrays.proofs.Own.{array_arguments, array_later, arrays_later, own_is_place, own_word, words_are, words_same, zip_all}
+use Rattle.hp_class.proofs.FunctionWords.{own_is_place, words_same, zip_all}
+use Rattle.hp_arrays.proofs.Own.{array_arguments, array_later, arrays_later, own_word, words_are}
 use Rattle.hp_arrays.proofs.SetFits.{own_give_numbers, set_fits}
-use Rattle.hp_arrays.proofs.Tuples.{of_values, tuple_inside, tuple_length}
+use Rattle.hp_tuple_lines.proofs.Tuples.{of_values, tuple_inside, tuple_length}
 
 -- ---- the law over values for a list that is not empty
 complete_over : (frame : Frame) (funcs : List Word) (applied : Word → Bool) (zs : List ℚ) (i : ℚ) (is : List ℚ) (clauses : List Universal) → zs ≡ i ∷ is → AreCongruent frame.facts
@@ -99,11 +101,11 @@ module _ (back : ArgumentsComeBack) (start : Ground) (own : List ℕ) (words : L
 
   -- ---- the plan
   abbrev planned : FlatClause → Planned
-  planned c = planned_at set c
+  planned c = planned_over set c
 
   tuple_over : (c : FlatClause) (t : Tuple) → Contains (planned c).tuples t → IsTupleOver start set c t
   tuple_over c t k =
-      let w = map_contains index_tuple (all_tuples set (length c.vars)) t k in
+      let w = map_contains shown_tuple (all_tuples set (length c.vars)) t k in
       let inside : (x : Arg) → Contains t.args x → Contains set x = λ x n. tuple_inside set (length c.vars) w.0 w.1 x (subst (λ (z : Tuple). Contains z.args x) (sym w.2) n) in
       record {
         fits = All-by (ArgFits (sorts start.names) Idx) t.args (λ x n. (index_is x (inside x n)).fits);
@@ -112,8 +114,8 @@ module _ (back : ArgumentsComeBack) (start : Ground) (own : List ℕ) (words : L
         inside = inside;
       }
 
-  planned_over : (c : FlatClause) → Contains clauses c → IsPlannedOver test start set (planned c)
-  planned_over c m = record {
+  plan_over : (c : FlatClause) → Contains clauses c → IsPlannedOver test start set (planned c)
+  plan_over c m = record {
     guard = guard_sides start.names own c (clause_is c m) sound.made numbers;
     head = head_sides start.names own c (clause_is c m) sound.made numbers;
     tuples = All-by (IsTupleOver start set c) (planned c).tuples (tuple_over c);
@@ -122,7 +124,7 @@ module _ (back : ArgumentsComeBack) (start : Ground) (own : List ℕ) (words : L
   elements : (done : Unit {0}) (next : Ground) → group_lines own (arrays_plan own clauses) start ≡ Ok (done, next) → HasElements start set (arrays_plan own clauses start.names) next
   elements done next e =
       group_elements back test start set take_indexes own (arrays_plan own clauses) done next sound.made
-      (All-map (IsPlannedOver test start set) planned clauses (All-by (λ (c : FlatClause). IsPlannedOver test start set (planned c)) clauses planned_over)) e
+      (All-map (IsPlannedOver test start set) planned clauses (All-by (λ (c : FlatClause). IsPlannedOver test start set (planned c)) clauses plan_over)) e
 
   -- ---- at values
   module _ (next : Ground) (has : HasElements start set (arrays_plan own clauses start.names) next) (size : ℕ) (names : NameList) (v : Values)
@@ -183,8 +185,8 @@ module _ (back : ArgumentsComeBack) (start : Ground) (own : List ℕ) (words : L
         let t = of_values (arg_value v) set c.vars xs among in
         let all = subst (λ (fs : List ℕ). All (PlannedIsTrue fs size names v) (map planned clauses)) (append-nil own) m.instances in
         let one = All-contains (PlannedIsTrue own size names v) (map planned clauses) (planned c) all (contains_map planned clauses c k) in
-        let here = All-contains (λ (z : Tuple). IsTrueWithPoints frame (is_function names own) (universal_of c) (arg_values v z.args)) (planned c).tuples (index_tuple t.0) one
-        (contains_map index_tuple (all_tuples set (length c.vars)) t.0 t.1) in
+        let here = All-contains (λ (z : Tuple). IsTrueWithPoints frame (is_function names own) (universal_of c) (arg_values v z.args)) (planned c).tuples (shown_tuple t.0) one
+        (contains_map shown_tuple (all_tuples set (length c.vars)) t.0 t.1) in
         let there = subst (λ (ys : List ℚ). IsTrueWithPoints frame (is_function names own) (universal_of c) ys) t.2 here in
         let words_now : words_at names own ≡ words = words_same start.names names begins.signatures own ∙ same_words in
         there functions (λ j n o. given j n (or_first (is_own words j.func) (applied j.func) (subst (λ (ws : List Word). IsTrue (is_own ws j.func)) words_now o)))

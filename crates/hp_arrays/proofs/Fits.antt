@@ -31,10 +31,12 @@ use Rattle.hp_class.specs.Frame.{facts_of, is_function}
 use Rattle.hp_class.specs.Group.{PlanFits, PlannedFits}
 use Rattle.hp_class.specs.Law.{HasSortedPoints, IsTableAt}
 use Rattle.hp_index_set.specs.IndexSet.{index_set}
-use Rattle.hp_index_set.specs.Rules.{is_guard, is_head, is_idx}
+use Rattle.hp_index_set.specs.Rules.{is_guard, is_head}
+use Rattle.hp_flatten.specs.Sorts.{is_idx}
 use Rattle.hp_index_set.specs.Laws.{IsFitIndex}
 use Rattle.hp_tuples.specs.Tuples.{all_tuples, behind}
-use Rattle.hp_arrays.specs.Arrays.{FitsIndexes, IsArray, IsArrayClause, IsArrayGroup, arrays_plan, arrays_tables, index_tuple, planned_at, tuples_plan}
+use Rattle.hp_arrays.specs.Arrays.{IsArray, IsArrayClause, IsArrayGroup, arrays_plan, arrays_tables}
+use Rattle.hp_tuple_lines.specs.TupleLines.{FitsOver, shown_tuple, planned_over, tuples_plan}
 use Rattle.hp_arrays.proofs.PlainReads.{reads_are_plain}
 use Rattle.hp_arrays.proofs.SetFits.{set_fits}
 
@@ -134,19 +136,19 @@ module _ (names : NameList) (own : List ℕ) (indexes : List Arg) (small : All (
       (for_each names c.vars args (and_parts (list_all (λ (v : Var). is_idx v.sort) c.vars) guards h.guards).0 over.many over.each)
       (All-weaker (IsFitIndex names) IsSmallArg (λ x k. k.small) args over.each) plain.0 plain.1
 
-  pub clause_fits : (c : FlatClause) → IsArrayClause names own c → FitsIndexes names indexes c
+  pub clause_fits : (c : FlatClause) → IsArrayClause names own c → FitsOver names indexes c
   clause_fits c h = record {
     flat = h.flat;
     few = h.few;
-    tuples = All-map (λ (t : Tuple). TupleFits names c t.args) index_tuple (all_tuples indexes (length c.vars))
+    tuples = All-map (λ (t : Tuple). TupleFits names c t.args) shown_tuple (all_tuples indexes (length c.vars))
         (All-weaker (IsOver (IsFitIndex names) (length c.vars)) (λ args. TupleFits names c args) (tuple_fits c h) (all_tuples indexes (length c.vars)) (all_over (IsFitIndex names) indexes small (length c.vars)));
   }
 
 pub arrays_clauses_fit : (names : NameList) (own : List ℕ) (words : List Word) (clauses : List FlatClause) → IsArrayGroup names own words clauses → IsMade names → IsFitNames names
-    → All (FitsIndexes names (index_set own clauses names)) clauses
+    → All (FitsOver names (index_set own clauses names)) clauses
 arrays_clauses_fit names own words clauses lent made fit =
     let xs = index_set own clauses names in
-    All-weaker (IsArrayClause names own) (FitsIndexes names xs) (clause_fits names own xs (set_fits names own words clauses lent made fit)) clauses lent.all
+    All-weaker (IsArrayClause names own) (FitsOver names xs) (clause_fits names own xs (set_fits names own words clauses lent made fit)) clauses lent.all
 
 pub arrays_plan_fits : (names : NameList) (own : List ℕ) (words : List Word) (clauses : List FlatClause) → IsArrayGroup names own words clauses → IsMade names → IsFitNames names
     → PlanFits names clauses (arrays_plan own clauses names)
@@ -154,6 +156,6 @@ arrays_plan_fits names own words clauses lent made fit =
     let xs = index_set own clauses names in
     let all = arrays_clauses_fit names own words clauses lent made fit in
     All-by (PlannedFits names clauses) (tuples_plan xs clauses)
-    (λ p m. (let w = map_contains (planned_at xs) clauses p m in
-    let h = All-contains (FitsIndexes names xs) clauses w.0 all w.1 in
+    (λ p m. (let w = map_contains (planned_over xs) clauses p m in
+    let h = All-contains (FitsOver names xs) clauses w.0 all w.1 in
     subst (PlannedFits names clauses) w.2 (record { among = w.1; flat = h.flat; tuples = h.tuples })))

@@ -30,7 +30,8 @@ use Rattle.hp_class.specs.Law.{HasGrown}
 use Rattle.hp_index_set.specs.IndexSet.{index_set}
 use Rattle.hp_index_set.specs.Laws.{HasIndexArgument, IsFitIndex}
 use Rattle.hp_arrays.specs.Arrays.{IsArrayGroup, array_elements, element, elements}
-use Rattle.hp_arrays.proofs.Own.{array_readers, own_is_place}
+use Rattle.hp_class.proofs.FunctionWords.{own_is_place}
+use Rattle.hp_arrays.proofs.Own.{array_readers}
 use Rattle.hp_arrays.proofs.SetFits.{set_fits}
 
 reader_stays : (old new : Ground) (func : ℕ) → Begins old new → HasIndexArgument old.names func → HasIndexArgument new.names func

@@ -49,7 +49,8 @@ use Rattle.hp_flatten.specs.Applications.{applications, atoms_applications, clau
 use Rattle.hp_local.specs.Frame.{is_own}
 use Rattle.hp_flatten.proofs.HoldsTerms.{back, front}
 use Rattle.hp_index_set.specs.IndexSet.{atom_bounds, bounds_between, guard_bounds, is_variable, literal_bounds, sorted_bounds, var_words}
-use Rattle.hp_index_set.specs.Rules.{has_variable, is_bounded_literal, is_convex, is_guard, is_head, is_idx, is_index_guard, is_no_pointer, is_ptr, is_read}
+use Rattle.hp_index_set.specs.Rules.{has_variable, is_bounded_literal, is_convex, is_guard, is_head, is_index_guard, is_no_pointer, is_read}
+use Rattle.hp_flatten.specs.Sorts.{is_idx, is_ptr}
 use Rattle.hp_arrays.specs.Arrays.{IsArrayClause}
 use Rattle.hp_arrays.proofs.Applied.{SidesPass, all_pass, atoms_pass}
 use Rattle.hp_arrays.proofs.ClauseWords.{AreIdx, agrees_clause, have_clause, sort_there, sorted_length, var_sorts}
@@ -57,7 +58,7 @@ use Rattle.hp_arrays.proofs.Fine.{IsReadOf, bare_fine, num_fine}
 use Rattle.hp_arrays.proofs.Literals.{goes, line_kept}
 use Rattle.hp_arrays.proofs.Padded.{firsts, firsts_value, front_value, length_firsts, mapped}
 use Rattle.hp_arrays.proofs.Scoped.{GivesNum, terms_stay}
-use Rattle.hp_arrays.proofs.Tuples.{contains_flat_map}
+use Rattle.hp_tuple_lines.proofs.Tuples.{contains_flat_map}
 
 -- ---- values
 -- whole numbers for variables of sort idx

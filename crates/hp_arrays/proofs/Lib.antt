@@ -4,7 +4,6 @@ pub mod Literals
 pub mod Applied
 pub mod ClauseWords
 pub mod Scoped
-pub mod Tuples
 pub mod Fine
 pub mod Guards
 pub mod ElementsMade
@@ -22,5 +21,4 @@ pub mod Applies
 pub mod Grows
 pub mod PlainReads
 pub mod Fits
-pub mod Stepping
 pub mod Tables

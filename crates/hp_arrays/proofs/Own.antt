@@ -22,27 +22,6 @@ use Rattle.hp_class.specs.Frame.{is_place, signature_word, words_at}
 use Rattle.hp_index_set.specs.Laws.{HasIndexArgument}
 use Rattle.hp_arrays.specs.Arrays.{IsArray}
 
--- ---- places and words
--- what holds of each function with its word
-pub zip_all : {A B : Type 0} (R : A → B → Type 0) (P : B → Type 0) (xs : List A) (ys : List B) → AllZip R xs ys → ((x : A) (y : B) → Contains xs x → Contains ys y → R x y → P y) → All P ys
-zip_all R P [] [] z h = All-nil P
-zip_all R P [] (y ∷ ys) z h = absurd z
-zip_all R P (x ∷ xs) [] z h = absurd z
-zip_all R P (x ∷ xs) (y ∷ ys) z h =
-    All-cons P y ys (h x y (contains_first x xs) (contains_first y ys) z.0) (zip_all R P xs ys z.1 (λ a b m n r. h a b (contains_later x xs a m) (contains_later y ys b n) r))
-
-pub words_same : (old new : NameList) → new.signatures ≡ old.signatures → (funcs : List ℕ) → words_at new funcs ≡ words_at old funcs
-words_same old new e [] = refl
-words_same old new e (func ∷ funcs) = (λ i. signature_word (slice_get (e i) func) ++ words_same old new e funcs i)
-
--- a function of the group has its place among them
-pub own_is_place : (own : List ℕ) (func : ℕ) → Contains own func → is_place own func ≡ true
-own_is_place [] func m = absurd (contains_none func m)
-own_is_place (k ∷ own) func m = elim (contains_cases k own func m) [
-  | inl e ↦ or_left (nat_eq k func) (is_place own func) (eq-eqb k func e)
-  | inr n ↦ or_right (nat_eq k func) (is_place own func) (own_is_place own func n)
-]
-
 -- ---- names that grow
 -- an array stays one while names are added
 pub array_later : (old new : NameList) (func : ℕ) (word : Word) → new.signatures ≡ old.signatures → IsArray old func word → IsArray new func word

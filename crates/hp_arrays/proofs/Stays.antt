@@ -20,20 +20,18 @@ use Rattle.hp_norm.specs.declared.flat.FlatClause.{FlatClause}
 use Rattle.hp_norm.specs.Flat.{IsFlat}
 use Rattle.hp_norm.specs.Scopes.{clause_scope}
 use Rattle.hp_class.specs.Frame.{is_function}
+use Rattle.hp_class.proofs.FunctionWords.{function_stays}
 use Rattle.hp_class.proofs.Stays.{clause_scopes_widen, flat_stays}
 use Rattle.hp_flatten.specs.declared.application.Application.{Application}
 use Rattle.hp_flatten.specs.Applications.{clause_applications}
 use Rattle.hp_index_set.specs.IndexSet.{clause_words}
-use Rattle.hp_index_set.specs.Rules.{has_index_guards, has_variable, is_bounded_literal, is_convex, is_guard, is_head, is_idx, is_index_guard, is_no_pointer, is_ptr, is_read, reads_at_variables}
+use Rattle.hp_index_set.specs.Rules.{has_index_guards, has_variable, is_bounded_literal, is_convex, is_guard, is_head, is_index_guard, is_no_pointer, is_read, reads_at_variables}
+use Rattle.hp_flatten.specs.Sorts.{is_idx, is_ptr}
 use Rattle.hp_arrays.specs.Arrays.{IsArrayClause, IsArrayGroup}
 use Rattle.hp_arrays.proofs.Shifting.{literals_shifted, shift_form}
 use Rattle.hp_arrays.proofs.Moving.{index_moves}
-use Rattle.hp_arrays.proofs.Own.{arrays_later, words_same}
+use Rattle.hp_arrays.proofs.Own.{arrays_later}
 use Rattle.hp_arrays.proofs.Words as moving
-
--- ---- functions
-pub function_stays : (old new : NameList) (funcs : List ℕ) (word : Word) → new.signatures ≡ old.signatures → is_function old funcs word ≡ is_function new funcs word
-function_stays old new funcs word e = ap (λ (ws : List Word). is_own ws word) (sym (words_same old new e funcs))
 
 -- ---- clauses
 module _ (old new : NameList) (b : BeginsNames old new) (made : IsMade new) (c : FlatClause) (flat : IsFlat old c) where

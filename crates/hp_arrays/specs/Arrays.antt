@@ -23,7 +23,7 @@ use Rattle.hp_flatten.specs.declared.application.Application.{Application}
 use Rattle.hp_flatten.specs.Applications.{clause_applications}
 use Rattle.hp_index_set.specs.IndexSet.{index_set}
 use Rattle.hp_index_set.specs.Rules.{has_index_guards, reads_at_variables}
-use Rattle.hp_tuples.specs.Tuples.{all_tuples}
+use Rattle.hp_tuple_lines.specs.TupleLines.{tuples_plan}
 
 -- ---- the group
 -- the function at a place, of idx to num, with its word
@@ -69,34 +69,9 @@ abbrev pub array_elements : List ℕ → List FlatClause → Maker (Unit {0})
 array_elements own clauses g = in_turn (elements (index_set own clauses g.names)) own g
 
 -- ---- instances
--- indexes for the variables, which are shown
-abbrev pub index_tuple : List Arg → Tuple
-index_tuple args = record { args = args; shown = args }
-
--- those of all tuples over the indexes, for so many variables
-abbrev pub index_tuples : List Arg → ℕ → List Tuple
-index_tuples indexes count = map index_tuple (all_tuples indexes count)
-
-abbrev pub planned_at : List Arg → FlatClause → Planned
-planned_at indexes c = record { clause = c; tuples = index_tuples indexes (length c.vars) }
-
--- each clause at all tuples over these indexes
-abbrev pub tuples_plan : List Arg → List FlatClause → List Planned
-tuples_plan indexes clauses = map (planned_at indexes) clauses
-
--- and over the index set
+-- each clause at all tuples over the index set
 abbrev pub arrays_plan : List ℕ → List FlatClause → NameList → List Planned
 arrays_plan own clauses names = tuples_plan (index_set own clauses names) clauses
-
--- a flat clause of few variables, and tuples over the indexes that fit it
-pub record FitsIndexes (names : NameList) (indexes : List Arg) (c : FlatClause) : Type 0 where
-  pub flat : IsFlat names c
-  pub few : length c.vars ≤ most_variables
-  pub tuples : All (λ t. TupleFits names c t.args) (index_tuples indexes (length c.vars))
-
--- the indexes at places, counted from 0
-abbrev pub indexes_at : List Arg → List ℕ → List Arg
-indexes_at indexes places = map (λ k. get_or indexes k Null) places
 
 -- ---- tables
 -- from each index on the value there, up to the next one

@@ -9,6 +9,7 @@ ghost use Rattle.hp_tables.proofs.ClassLaws.{nothing_grows};
 ghost use Rattle.hp_cases.specs.Cases.{IsByCases, cases_plan, cases_tables};
 ghost use Rattle.hp_cases.proofs.Complete.{cases_complete_at};
 ghost use Rattle.hp_cases.proofs.Laws.{cases_apply, cases_fit, cases_plan_fits, cases_stay};
+ghost use Rattle.hp_class.specs.Law.{HaveSortedPoints};
 
 use hp_cases::{Case, add_case_lines, case_table};
 use hp_class::{LocalClass, Slope, add_function_lines};
@@ -80,6 +81,8 @@ impl LocalClass for Cases {
 
     ghost plan_of = { λ c. cases_plan c.func c.clauses };
 
+    ghost ArePlaced = { λ c. HaveSortedPoints c.own };
+
     ghost tables_of = { λ c _ names v. cases_tables c.func c.word c.args c.cases names v };
 
     fn own(&self) -> &List<u32> {
@@ -128,7 +131,7 @@ impl LocalClass for Cases {
 
     ghost applies = { λ c names lent. cases_apply names c.func c.word c.args c.clauses c.cases c.applied c.own lent };
 
-    ghost completes = { λ c size done start next names v lent e modelled ready. cases_complete_at arguments_come_back size done start next names v c.func c.word c.args c.clauses c.cases c.applied c.own lent e modelled };
+    ghost completes = { λ c size done start next names v lent e modelled placed ready. cases_complete_at arguments_come_back size done start next names v c.func c.word c.args c.clauses c.cases c.applied c.own lent e modelled };
 
-    ghost fitting = { λ c size names v lent some sorted. cases_fit size names v c.func c.word c.args c.clauses c.cases c.applied c.own lent some sorted };
+    ghost fitting = { λ c size names v lent made fit have some sorted. cases_fit size names v c.func c.word c.args c.clauses c.cases c.applied c.own lent some sorted };
 }

@@ -1,8 +1,9 @@
 -- The groups of a problem over the ground set of its clauses without variables, and what they make.
-use Rattle.std.proofs.Common.{◌≡◌, ◌∙◌, ◌<◌, List, [], ◌∷◌, length, false, None, Ok, Err, sym, ap, subst}
+use Rattle.std.proofs.Common.{◌≡◌, ◌∙◌, ◌<◌, ℕ, List, [], ◌∷◌, length, false, None, Ok, Err, sym, ap, subst}
 use Rattle.std.specs.List.{All, AllZip}
 use Rattle.std.proofs.lemmas.List.Elements.{All-cons, All-head, All-nil, All-tail}
 use Rattle.hp_tree.specs.declared.limit.Limit.{Limit as Which}
+use Rattle.hp_class.specs.Law.{HaveSortedPoints}
 use Rattle.hp_tree.specs.declared.problem.Clause.{Clause}
 use Rattle.hp_tree.specs.declared.problem.Decl.{Decl}
 use Rattle.hp_tree.specs.declared.problem.Decl.TheVariants.{Const, Fun}
@@ -150,6 +151,13 @@ is_ready (Free c) names v = tt
 is_ready (Monotone c) names v = tt
 is_ready (Cases c) names v = tt
 is_ready (Arrays c) names v = tt
+
+-- the law wants the points of its functions in the universe
+pub are_placed : (c : Group) (size : ℕ) (names : NameList) (v : Values) → HaveSortedPoints (ghosts.own c) size names v → ghosts.ArePlaced c size names v
+are_placed (Free c) size names v h = h
+are_placed (Monotone c) size names v h = h
+are_placed (Cases c) size names v h = h
+are_placed (Arrays c) size names v h = h
 
 -- ---- why there are no groups
 module _ (p : Problem) where

@@ -60,7 +60,7 @@ use Rattle.hp_chain.specs.Ground.{IsGroundOf, chain_of}
 use Rattle.hp_chain.specs.Order.{function_order}
 use Rattle.hp_chain.specs.Structures.{structure_of, tables_from}
 use Rattle.hp_chain.specs.Laws.{AreTrueLines, ValuesGiveAStructure}
-use Rattle.hp_chain.proofs.Chained.{is_ready, readable}
+use Rattle.hp_chain.proofs.Chained.{are_placed, is_ready, readable}
 use Rattle.hp_chain.proofs.OwnTables.{table_at, table_only}
 use Rattle.hp_ruled.proofs.Arrays.{owned}
 use Rattle.hp_chain.proofs.ValuesClauses.{clauses_hold}
@@ -195,12 +195,15 @@ module _ (p : Problem) (g : Ground) (is : IsGroundOf p g) (v : Values) (are_true
   group_tables : (func : ℕ) (t : Signature) → slice_get names.signatures func ≡ Some t → ghosts.tables_of (group func t) size names w ≡ map table (ghosts.own (group func t))
   group_tables func t known = groups_give_tables read names.signatures order size names w table only_table func t known
 
+  placed : (c : Group) → ghosts.ArePlaced c size names w
+  placed c = are_placed c size names w (λ f m. sorted_points size names w been_made.sound.made been_made.sound.names some inside f)
+
   at_table : (func : ℕ) (t : Signature) → slice_get names.signatures func ≡ Some t → IsTableAt size names [] func (table func)
   at_table func t known =
       let c = group func t in
       All-contains (λ k. IsTableAt size names [] k (table k)) (ghosts.own c) func
       (tables_at size names (ghosts.own c) (ghosts.applied c) (ghosts.tables_of c size names w) table (has_own func t known).alone (group_tables func t known)
-      (group_laws.fitting-law c size names w (lent func t known) some (λ f m. sorted_points size names w been_made.sound.made been_made.sound.names some inside f)))
+      (group_laws.fitting-law c size names w (lent func t known) been_made.sound.made been_made.sound.names have some (placed c)))
       (has_own func t known).own
 
   all_tables : (all : List Signature) (from : ℕ) (ts : List Signature) → ((k : ℕ) (t : Signature) → slice_get ts k ≡ Some t → slice_get names.signatures (from + k) ≡ Some t)
@@ -253,7 +256,7 @@ module _ (p : Problem) (g : Ground) (is : IsGroundOf p g) (v : Values) (are_true
       let turns = groups_are_modelled Group ghosts.grow_of ghosts.own ghosts.applied ghosts.clauses ghosts.plan_of ghosts.IsLent (chain_of p is.read) is.read.1 g size w (descended p g is) have facts_congruent true_lines in
       let its = All-contains (IsModelledTurn ghosts.own ghosts.applied ghosts.plan_of ghosts.IsLent size names w) (chain_of p is.read) c turns (among func t known) in
       law_of names frame (ghosts.own c) (ghosts.applied c) (ghosts.clauses c) (ghosts.tables_of c size names w) (map table (ghosts.own c)) (has_own func t known).alone (group_tables func t known)
-      (group_laws.completes-law c size tt its.mid its.next names w its.lent its.made its.modelled (is_ready c names w))
+      (group_laws.completes-law c size tt its.mid its.next names w its.lent its.made its.modelled (placed c) (is_ready c names w))
 
   completed : (func : ℕ) (t : Signature) → slice_get names.signatures func ≡ Some t → IsCompleted (declared_level p) frame names.signatures table func t (law_group func t)
   completed func t known =

@@ -23,3 +23,4 @@ pub mod Whole
 pub mod Inside
 pub mod GroupsMade
 pub mod GroupsModelled
+pub mod FunctionWords

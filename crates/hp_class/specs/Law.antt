@@ -64,6 +64,10 @@ abbrev pub HasSortedPoints : ℕ → NameList → Values → ℕ → Type 0
 HasSortedPoints size names v func = (signature : Signature) → slice_get names.signatures func ≡ Some signature
     → All (IsSortedFact size signature.args signature.result) (facts_of func signature.name names v)
 
+-- so do those of each of these functions
+abbrev pub HaveSortedPoints : List ℕ → ℕ → NameList → Values → Type 0
+HaveSortedPoints funcs size names v = (func : ℕ) → Contains funcs func → HasSortedPoints size names v func
+
 -- a scope in which the words of arguments have these sorts, all other constants theirs, and these functions their profiles
 pub record IsScopeAt (size : ℕ) (names : NameList) (applied : List ℕ) (args : List Sort) (scope : Scope) : Type 0 where
   pub arguments : IsTableScope size args scope

@@ -18,7 +18,7 @@ ghost use Rattle.hp_norm.specs.Sound.{IsSound};
 ghost use Rattle.hp_norm.specs.Flat.{universal_of};
 ghost use Rattle.hp_class.specs.Frame.{frame_at, is_function};
 ghost use Rattle.hp_class.specs.Group.{PlanFits, Planned, group_lines};
-ghost use Rattle.hp_class.specs.Law.{HasGrown, HasSortedPoints, IsModelled, IsTableAt, group_at};
+ghost use Rattle.hp_class.specs.Law.{HasGrown, IsModelled, IsTableAt, group_at};
 ghost use Rattle.hp_class.specs.Small.{AreSmallIdx};
 
 use hp_defs::{Ground, Names};
@@ -54,6 +54,9 @@ pub trait LocalClass {
     ghost plan_of: { Self → NameList → list Planned };
     /// What the tables ask of values beside that lines are true: nothing, but where a class says otherwise.
     ghost Ready: { Self → NameList → Values → Type 0 } = { λ _ _ _. Unit {0} };
+    /// Where the law wants pointers, in a universe of so many: those of the points of own functions in it, or those of some
+    /// names alone.
+    ghost ArePlaced: { Self → ℕ → NameList → Values → Type 0 };
     /// The tables, in a universe of so many pointers.
     ghost tables_of: { Self → ℕ → NameList → Values → list table };
 
@@ -123,11 +126,10 @@ pub trait LocalClass {
     /// The law.
     ghost completes: { (c : Self) (size : ℕ) (done : Unit {0}) (start next : ground_set) (names : NameList) (v : Values)
         → IsLent c start.names → group_lines (own c) (plan_of c) start ≡ Ok (done, next)
-        → IsModelled (own c) (applied c) (plan_of c start.names) size start next names v → Ready c names v
+        → IsModelled (own c) (applied c) (plan_of c start.names) size start next names v → ArePlaced c size names v → Ready c names v
         → Completes (frame_at size names v) (is_function names (applied c)) (group_at names (own c) (clauses c) (tables_of c size names v)) };
 
-    /// One table for each function of the group, in their order, where the points of these are in the universe.
-    ghost fitting: { (c : Self) (size : ℕ) (names : NameList) (v : Values) → IsLent c names → 1 ≤ size
-        → ((func : ℕ) → Contains (own c) func → HasSortedPoints size names v func)
+    /// One table for each function of the group, in their order, where pointers stand as the law wants them.
+    ghost fitting: { (c : Self) (size : ℕ) (names : NameList) (v : Values) → IsLent c names → IsMade names → IsFitNames names → HaveSorts (sorts names) v → 1 ≤ size → ArePlaced c size names v
         → AllZip (IsTableAt size names (applied c)) (own c) (tables_of c size names v) };
 }

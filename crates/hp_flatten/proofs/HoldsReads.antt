@@ -23,7 +23,8 @@ use Rattle.hp_local.proofs.Terms.{name_value}
 use Rattle.hp_norm.specs.Opening.{is_variable}
 use Rattle.hp_norm.proofs.TermsNamed.{word_has_sort}
 use Rattle.hp_flatten.specs.declared.application.Application.{Application}
-use Rattle.hp_flatten.specs.Flattening.{argument_names, argument_vars, argument_word, equalities_from, equality, flat_term, flat_word, is_argument, is_first, is_first_of, is_named, is_num, is_place, is_word, name_in, place_of, placed_word}
+use Rattle.hp_flatten.specs.Flattening.{argument_names, argument_vars, argument_word, equalities_from, equality, flat_term, flat_word, is_argument, is_first, is_first_of, is_named, is_place, is_word, name_in, place_of, placed_word}
+use Rattle.hp_flatten.specs.Sorts.{is_num}
 use Rattle.hp_flatten.proofs.HoldsTerms.{name_alone}
 
 -- ---- what words of arguments have

@@ -6,7 +6,7 @@ use Rattle.std.specs.Str.{bytes_eq}
 use Rattle.std.proofs.lemmas.List.{length-append}
 use Rattle.std.proofs.lemmas.List.Elements.{All-nil, All-cons, All-head, All-tail, All-append}
 use Rattle.hp_math.specs.Rational.{ℚ, ◌+ℚ◌, ◌-ℚ◌, ◌*ℚ◌, neg_ℚ}
-use Rattle.hp_tree.specs.declared.term.Term.{Term, Number, Null, Name, Apply, Add, Sub, Neg, Scale, fold-roll-Term, map-Term, out-Term, out-roll-Term, roll-Term}
+use Rattle.hp_tree.specs.declared.term.Term.{Term, Name, Apply, fold-roll-Term, map-Term, out-Term, out-roll-Term, roll-Term}
 use Rattle.hp_tree.specs.declared.term.Term.TheOpen.{Term-F}
 use Rattle.hp_tree.specs.declared.term.Term.TheVariants.{rolls-Null, rolls-Name, rolls-Add, rolls-Sub, rolls-Neg, rolls-Scale}
 use Rattle.hp_tree.specs.declared.problem.Sort.{Sort}

@@ -24,7 +24,8 @@ use Rattle.hp_local.specs.Rows.{argument_words}
 use Rattle.hp_norm.specs.Opening.{is_variable}
 use Rattle.hp_norm.specs.Scopes.{clause_scope}
 use Rattle.hp_norm.proofs.ClauseScopes.{no_sort, word_stands}
-use Rattle.hp_flatten.specs.Flattening.{argument_var, argument_vars, is_argument, is_num, place_of}
+use Rattle.hp_flatten.specs.Flattening.{argument_var, argument_vars, is_argument, place_of}
+use Rattle.hp_flatten.specs.Sorts.{is_num}
 use Rattle.hp_flatten.specs.Laws.{HasPlainConstants}
 
 -- ---- other words

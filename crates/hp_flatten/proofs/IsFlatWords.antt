@@ -22,7 +22,8 @@ use Rattle.hp_local.specs.Rows.{argument_words}
 use Rattle.hp_norm.specs.Opening.{is_variable}
 use Rattle.hp_norm.specs.Scopes.{clause_scope, variable_sort}
 use Rattle.hp_norm.proofs.ClauseScopes.{no_sort}
-use Rattle.hp_flatten.specs.Flattening.{argument_var, argument_vars, argument_word, flat_word, is_argument, is_named, is_num, place_of, placed_word}
+use Rattle.hp_flatten.specs.Flattening.{argument_var, argument_vars, argument_word, flat_word, is_argument, is_named, place_of, placed_word}
+use Rattle.hp_flatten.specs.Sorts.{is_num}
 use Rattle.hp_flatten.specs.Laws.{HasPlainConstants}
 use Rattle.hp_flatten.proofs.HoldsReads.{variable_placed}
 use Rattle.hp_flatten.proofs.HoldsWords.{clause_word_other}

@@ -1,4 +1,5 @@
 pub mod Adding
+pub mod ClausesApply
 pub mod Holds
 pub mod HoldsReads
 pub mod HoldsTerms

@@ -1,13 +1,12 @@
 -- Flattening: a clause with one application is said of the words of its arguments, `$1`, `$2` and so on. An argument without
 -- variables, and a variable that is an earlier argument, becomes an equality of the guard.
-use Rattle.std.specs.Prelude.{ℕ, suc, List, [], ◌∷◌, ◌++◌, map, take, length, position, Bool, true, false, ◌&&◌, nat_eq, if◌then◌else◌, Option, Some, None, is_some, slice_index_or}
+use Rattle.std.specs.Prelude.{ℕ, suc, List, [], ◌∷◌, ◌++◌, map, take, length, position, Bool, false, ◌&&◌, nat_eq, if◌then◌else◌, Option, Some, None, is_some, slice_index_or}
 use Rattle.std.specs.List.{list_all}
 use Rattle.std.specs.Str.{bytes_eq}
 use Rattle.hp_tree.specs.declared.term.Term.{Term, fold-Term, out-Term, Number, Null, Name, Apply, Add, Sub, Neg, Scale}
 use Rattle.hp_tree.specs.declared.term.Term.TheOpen.{Term-F}
 use Rattle.hp_tree.specs.declared.problem.Atom.{Atom}
 use Rattle.hp_tree.specs.declared.problem.Cmp.TheVariants.{Eq}
-use Rattle.hp_tree.specs.declared.problem.Sort.{Sort}
 use Rattle.hp_tree.specs.declared.problem.Sort.TheVariants as sort
 use Rattle.hp_tree.specs.declared.problem.Var.{Var}
 use Rattle.hp_tree.specs.Value.{Word}
@@ -16,6 +15,7 @@ use Rattle.hp_norm.specs.declared.flat.FlatClause.{FlatClause}
 use Rattle.hp_norm.specs.Opening.{is_variable}
 pub use Rattle.hp_norm.specs.Plain.{is_lone_variable, is_plain_argument, is_variable_in, name_in}
 use Rattle.hp_flatten.specs.declared.application.Application.{Application}
+use Rattle.hp_flatten.specs.Sorts.{is_num}
 
 -- ---- the words of arguments
 -- that of the argument at a place, counted from 0; a function has at most four arguments
@@ -48,11 +48,6 @@ is_named word term = is_word word (name_in (out-Term term))
 -- the place of the first argument that is this name alone, counted from 0
 abbrev pub place_of : List Term → Word → Option ℕ
 place_of args word = position (is_named word) args
-
-abbrev pub is_num : Sort → Bool
-is_num sort.Num = true
-is_num sort.Idx = false
-is_num sort.Ptr = false
 
 -- a num variable that is an argument
 abbrev pub is_argument : List Term → Var → Bool

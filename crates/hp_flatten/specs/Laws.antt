@@ -1,6 +1,5 @@
 -- What a flattened clause says.
-use Rattle.std.specs.Prelude.{◌≡◌, ◌↔◌, ℕ, ◌≤◌, List, [], ◌∷◌, length, true, false, Some, position, slice_get}
-use Rattle.std.specs.Str.{bytes_eq}
+use Rattle.std.specs.Prelude.{◌≡◌, ◌↔◌, ℕ, ◌≤◌, List, [], ◌∷◌, length, true, false, Some}
 use Rattle.std.specs.List.{All}
 use Rattle.hp_names.specs.Names.{is_among}
 use Rattle.hp_tree.specs.Limits.{most_arguments}

@@ -1,3 +1,4 @@
 pub mod Applications
 pub mod Flattening
 pub mod Laws
+pub mod Sorts

@@ -2,11 +2,12 @@
 
 ghost use Rattle.std.specs.Prelude.{◌≡◌, ◌<◌, IfSome, length};
 ghost use Rattle.std.specs.List.{list_all};
-ghost use Rattle.hp_flatten.specs.Flattening.{are_arguments, is_argument, is_lone_variable, is_named, is_num, is_plain_argument, place_of};
+ghost use Rattle.hp_flatten.specs.Flattening.{are_arguments, is_argument, is_lone_variable, is_named, is_plain_argument, place_of};
 
+use crate::sorts::is_num;
 use hp_norm::{is_variable, mentions};
 use hp_num::Text;
-use hp_tree::{Sort, Term, Var};
+use hp_tree::{Term, Var};
 
 /// Whether each argument is a variable or has none, and the variables are num and are those that are arguments.
 pub fn are_arguments(vars: &[Var], args: &[Term]) -> bool
@@ -95,15 +96,5 @@ fn is_named(word: &Text, term: &Term) -> bool
         Term::Sub(_, _) => false,
         Term::Neg(_) => false,
         Term::Scale(_, _) => false,
-    }
-}
-
-fn is_num(sort: Sort) -> bool
-    ensures { result ≡ is_num sort }
-{
-    match sort {
-        Sort::Num => true,
-        Sort::Idx => false,
-        Sort::Ptr => false,
     }
 }

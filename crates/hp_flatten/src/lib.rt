@@ -6,6 +6,7 @@ mod arguments;
 mod equalities;
 mod flattening;
 mod laws;
+mod sorts;
 mod terms;
 mod words;
 
@@ -13,4 +14,5 @@ pub use application::{Application, clause_applications};
 pub use arguments::are_arguments;
 pub use flattening::flatten;
 pub use laws::flattened_clauses_say_the_same;
+pub use sorts::{is_idx, is_num, is_ptr};
 pub use words::argument_word;

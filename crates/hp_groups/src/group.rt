@@ -39,6 +39,8 @@ impl LocalClass for Group {
 
     ghost Ready = { elim [ Free c ↦ ⟦<Free as LocalClass>⟧.Ready c | Monotone c ↦ ⟦<Monotone as LocalClass>⟧.Ready c | Cases c ↦ ⟦<Cases as LocalClass>⟧.Ready c | Arrays c ↦ ⟦<Arrays as LocalClass>⟧.Ready c ] };
 
+    ghost ArePlaced = { elim [ Free c ↦ ⟦<Free as LocalClass>⟧.ArePlaced c | Monotone c ↦ ⟦<Monotone as LocalClass>⟧.ArePlaced c | Cases c ↦ ⟦<Cases as LocalClass>⟧.ArePlaced c | Arrays c ↦ ⟦<Arrays as LocalClass>⟧.ArePlaced c ] };
+
     ghost tables_of = { elim [ Free c ↦ ⟦<Free as LocalClass>⟧.tables_of c | Monotone c ↦ ⟦<Monotone as LocalClass>⟧.tables_of c | Cases c ↦ ⟦<Cases as LocalClass>⟧.tables_of c | Arrays c ↦ ⟦<Arrays as LocalClass>⟧.tables_of c ] };
 
     fn own(&self) -> &List<u32> {

@@ -7,8 +7,6 @@ use Rattle.hp_tree.specs.declared.term.Term.TheOpen.{Term-F}
 use Rattle.hp_tree.specs.declared.problem.Atom.{Atom}
 use Rattle.hp_tree.specs.declared.problem.Cmp.{Cmp}
 use Rattle.hp_tree.specs.declared.problem.Cmp.TheVariants.{Ne}
-use Rattle.hp_tree.specs.declared.problem.Sort.{Sort}
-use Rattle.hp_tree.specs.declared.problem.Sort.TheVariants.{Num, Idx, Ptr}
 use Rattle.hp_tree.specs.declared.problem.Var.{Var}
 use Rattle.hp_terms.specs.Sorting.{sort_of}
 use Rattle.hp_lit.specs.declared.literal.IdxLit.{IdxLit}
@@ -22,17 +20,8 @@ use Rattle.hp_norm.specs.Opening as opening
 use Rattle.hp_norm.specs.Scopes.{clause_scope}
 use Rattle.hp_flatten.specs.declared.application.Application.{Application}
 use Rattle.hp_flatten.specs.Applications.{clause_applications}
+use Rattle.hp_flatten.specs.Sorts.{is_idx, is_ptr}
 use Rattle.hp_index_set.specs.IndexSet.{clause_words, is_variable}
-
-abbrev pub is_idx : Sort → Bool
-is_idx Num = false
-is_idx Idx = true
-is_idx Ptr = false
-
-abbrev pub is_ptr : Sort → Bool
-is_ptr Num = false
-is_ptr Idx = false
-is_ptr Ptr = true
 
 -- ---- guards
 -- two variables with bound 0, or a variable with a constant or a number; which sides of the literal are variables

@@ -5,16 +5,18 @@ ghost use Rattle.std.specs.List.{All, list_all};
 ghost use Rattle.hp_terms.specs.Weight.{IsLightAtom};
 ghost use Rattle.hp_index.specs.Literals.{literals};
 ghost use Rattle.hp_norm.specs.Flat.{IsFlat};
+ghost use Rattle.hp_flatten.specs.Sorts.{is_idx};
 ghost use Rattle.hp_index_set.specs.IndexSet.{clause_words};
-ghost use Rattle.hp_index_set.specs.Rules.{has_index_guards, has_variable, is_bounded, is_bounded_literal, is_convex, is_guard, is_head, is_idx, is_index_guard};
+ghost use Rattle.hp_index_set.specs.Rules.{has_index_guards, has_variable, is_bounded, is_bounded_literal, is_convex, is_guard, is_head, is_index_guard};
 
 use crate::literals::{index_literals, is_variable};
 use crate::words::clause_words;
 use hp_defs::Names;
+use hp_flatten::is_idx;
 use hp_lit::{IdxLit, Lit};
 use hp_names::NameIndex;
 use hp_norm::{FlatClause, clause_sort, mentions};
-use hp_tree::{Atom, Cmp, Sort, Var};
+use hp_tree::{Atom, Cmp, Var};
 use std::alloc::{AllocError, Global};
 
 /// Whether all variables of a clause are indexes, and atoms between indexes in which one occurs stand in the guard and bound
@@ -43,16 +45,6 @@ fn are_indexes(vars: &[Var]) -> bool
     ensures { result ≡ list_all (λ v. is_idx v.sort) vars.now }
 {
     vars.iter().all(|var| is_idx(var.sort))
-}
-
-/// Whether a sort is idx.
-fn is_idx(sort: Sort) -> bool
-    ensures { result ≡ is_idx sort }
-{
-    match sort {
-        Sort::Idx => true,
-        Sort::Num | Sort::Ptr => false,
-    }
 }
 
 /// Whether atoms of the head that are between indexes have no variable.
@@ -155,7 +147,7 @@ fn is_bounded_atom(
 }
 
 /// Whether a relation leaves no gap: all but `!=`.
-fn is_convex(cmp: Cmp) -> bool
+pub fn is_convex(cmp: Cmp) -> bool
     ensures { result ≡ is_convex cmp }
 {
     match cmp {

@@ -3,12 +3,12 @@
 ghost use Rattle.std.specs.Prelude.{◌≡◌, IfOk};
 ghost use Rattle.std.specs.List.{list_all};
 ghost use Rattle.hp_tree.specs.declared.term.Term.{out-Term};
-ghost use Rattle.hp_index_set.specs.Rules.{is_no_pointer, is_ptr, is_read, is_variable_term, reads_at_variables};
+ghost use Rattle.hp_index_set.specs.Rules.{is_no_pointer, is_read, is_variable_term, reads_at_variables};
 
 use hp_defs::Names;
-use hp_flatten::{Application, clause_applications};
+use hp_flatten::{Application, clause_applications, is_ptr};
 use hp_norm::{FlatClause, clause_sort, is_variable};
-use hp_tree::{Atom, Sort, Term, Var};
+use hp_tree::{Atom, Term, Var};
 use std::alloc::{AllocError, Global};
 
 /// Whether each application in a clause has one argument, which is a variable, and no atom is between pointers. `Err` says that
@@ -72,14 +72,4 @@ fn is_no_pointer(names: &Names, clause: &FlatClause, atom: &Atom) -> bool
     ensures { result ≡ is_no_pointer names.now clause.now atom.now }
 {
     !is_ptr(clause_sort(names, clause.vars.as_slice(), atom))
-}
-
-/// Whether a sort is ptr.
-fn is_ptr(sort: Sort) -> bool
-    ensures { result ≡ is_ptr sort }
-{
-    match sort {
-        Sort::Ptr => true,
-        Sort::Num | Sort::Idx => false,
-    }
 }

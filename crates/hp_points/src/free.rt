@@ -7,6 +7,7 @@ ghost use Rattle.hp_base.specs.Making.{keep};
 ghost use Rattle.hp_tables.specs.Classes.{IsFree, free_tables};
 ghost use Rattle.hp_tables.proofs.ClassLaws.{free_fits, free_law, free_stays, no_plan_fits, nothing_grows};
 ghost use Rattle.hp_tables.proofs.Applies.{nothing_applies};
+ghost use Rattle.hp_class.specs.Law.{HaveSortedPoints};
 
 use hp_class::{LocalClass, Slope, add_function_lines};
 use hp_defs::{Ground, Names};
@@ -61,6 +62,8 @@ impl LocalClass for Free {
 
     ghost plan_of = { λ _ _. [] };
 
+    ghost ArePlaced = { λ c. HaveSortedPoints c.own };
+
     ghost tables_of = { λ c _ names v. free_tables c.func c.word c.args names v };
 
     fn own(&self) -> &List<u32> {
@@ -105,7 +108,7 @@ impl LocalClass for Free {
 
     ghost applies = { λ c names lent. nothing_applies names (c.own ++ []) };
 
-    ghost completes = { λ c size done start next names v lent e modelled ready. free_law size done start next names v c.func c.word c.args c.own lent e modelled };
+    ghost completes = { λ c size done start next names v lent e modelled placed ready. free_law size done start next names v c.func c.word c.args c.own lent e modelled };
 
-    ghost fitting = { λ c size names v lent some sorted. free_fits size names v c.func c.word c.args c.own lent some sorted };
+    ghost fitting = { λ c size names v lent made fit have some sorted. free_fits size names v c.func c.word c.args c.own lent some sorted };
 }

@@ -14,6 +14,7 @@ ghost use Rattle.hp_tables.proofs.ClassLaws.{monotone_stays, nothing_grows, step
 ghost use Rattle.hp_tables.proofs.Complete.{monotone_completes_at};
 ghost use Rattle.hp_tables.proofs.Applies.{monotone_applies};
 ghost use Rattle.hp_tables.proofs.Fits.{monotone_plan_fits};
+ghost use Rattle.hp_class.specs.Law.{HaveSortedPoints};
 
 use hp_class::{LocalClass, Slope, add_function_lines};
 use hp_defs::{Ground, Names};
@@ -78,6 +79,8 @@ impl LocalClass for Monotone {
 
     ghost plan_of = { λ c. pairs_plan c.func c.form.first_lower c.clause };
 
+    ghost ArePlaced = { λ c. HaveSortedPoints c.own };
+
     ghost tables_of = { λ c _ names v. step_tables c.func c.word names v };
 
     fn own(&self) -> &List<u32> {
@@ -123,7 +126,7 @@ impl LocalClass for Monotone {
 
     ghost applies = { λ c names lent. monotone_applies names c.func c.word c.clause c.form c.own lent };
 
-    ghost completes = { λ c size done start next names v lent e modelled ready. monotone_completes_at arguments_come_back start next names c.func c.word c.clause c.form c.own size v done lent e modelled };
+    ghost completes = { λ c size done start next names v lent e modelled placed ready. monotone_completes_at arguments_come_back start next names c.func c.word c.clause c.form c.own size v done lent e modelled };
 
-    ghost fitting = { λ c size names v lent some sorted. steps_fit size names v c.func c.word c.clause c.form c.own lent some sorted };
+    ghost fitting = { λ c size names v lent made fit have some sorted. steps_fit size names v c.func c.word c.clause c.form c.own lent some sorted };
 }

@@ -26,7 +26,7 @@ use Rattle.hp_norm.proofs.Seeing.{by_term_roll}
 use Rattle.hp_class.specs.Small.{HasFewArguments}
 use Rattle.hp_flatten.specs.declared.application.Application.{Application}
 use Rattle.hp_flatten.specs.Applications.{application_of, applications, applications_step, atoms_applications, clause_applications}
-use Rattle.hp_flatten.specs.Flattening.{is_num}
+use Rattle.hp_flatten.specs.Sorts.{is_num}
 use Rattle.hp_flatten.specs.Laws.{AreNum, HasPlainConstants, IsFlattenableClause}
 use Rattle.hp_rules.specs.declared.ruled.Ruled.{Ruled}
 use Rattle.hp_rules.specs.Rules.{is_num_function, is_num_signature}

@@ -20,7 +20,7 @@ use Rattle.hp_class.specs.Frame.{is_function, is_place, signature_word, words_at
 use Rattle.hp_class.proofs.Facts.{word_there}
 use Rattle.hp_flatten.specs.declared.application.Application.{Application}
 use Rattle.hp_flatten.specs.Applications.{clause_applications}
-use Rattle.hp_flatten.specs.Flattening.{is_num}
+use Rattle.hp_flatten.specs.Sorts.{is_num}
 use Rattle.hp_flatten.proofs.IsFlat.{flattened_is_flat}
 use Rattle.hp_flatten.proofs.One.{flattened_has_one}
 use Rattle.hp_index_set.specs.Rules.{has_index_guards, reads_at_variables}

@@ -24,12 +24,14 @@ use Rattle.hp_norm.specs.declared.flat.FlatClause.{FlatClause}
 use Rattle.hp_norm.specs.Scopes.{clause_scope, signature_named}
 use Rattle.hp_flatten.specs.declared.application.Application.{Application}
 use Rattle.hp_flatten.specs.Applications.{applications, atoms_applications}
-use Rattle.hp_flatten.specs.Flattening.{are_arguments, argument_word, equalities_from, equality, flat_atom, flat_term, is_first, is_num}
+use Rattle.hp_flatten.specs.Flattening.{are_arguments, argument_word, equalities_from, equality, flat_atom, flat_term, is_first}
+use Rattle.hp_flatten.specs.Sorts.{is_num}
 use Rattle.hp_cases.specs.declared.case.Bound.{Bound}
 use Rattle.hp_cases.specs.declared.case.Bound.TheVariants.{Low, High, Same}
 use Rattle.hp_cases.specs.Bounds.{applies_it, atom_bound, bound_left, bound_right, head_bound}
 use Rattle.hp_cases.specs.Cases.{IsNumAtom, bound_term}
-use Rattle.hp_rules.specs.Rules.{is_case_atom, is_convex, is_empty, rule_words}
+use Rattle.hp_rules.specs.Rules.{is_case_atom, is_empty, rule_words}
+use Rattle.hp_index_set.specs.Rules.{is_convex}
 use Rattle.hp_ruled.proofs.Applications.{HasNumArguments, IsSortedAtom, applications_apply, is_num-Num, sides_sorted}
 use Rattle.hp_ruled.proofs.Numbers.{IsFree, IsNumIn, argument_num, flat_name, flat_names, flat_num, name_free, name_num, nil_parts, num_stays, rule_name}
 use Rattle.hp_ruled.proofs.Truth.{IsRowed, num_scope}

@@ -28,7 +28,8 @@ use Rattle.hp_norm.specs.Scopes.{clause_scope, variable_sort}
 use Rattle.hp_norm.proofs.ClauseScopes.{no_sort}
 use Rattle.hp_flatten.specs.declared.application.Application.{Application}
 use Rattle.hp_flatten.specs.Applications.{applications, applications_step}
-use Rattle.hp_flatten.specs.Flattening.{are_arguments, argument_var, argument_vars, argument_word, flat_step, flat_term, flat_word, is_argument, is_num, is_plain_argument, place_of, placed_word}
+use Rattle.hp_flatten.specs.Flattening.{are_arguments, argument_var, argument_vars, argument_word, flat_step, flat_term, flat_word, is_argument, is_plain_argument, place_of, placed_word}
+use Rattle.hp_flatten.specs.Sorts.{is_num}
 use Rattle.hp_rules.specs.Rules.{rule_words}
 use Rattle.hp_ruled.proofs.Applications.{applications_apply, applications_at}
 use Rattle.hp_ruled.proofs.Truth.{named_num, num_scope}

@@ -25,7 +25,8 @@ use Rattle.hp_cases.specs.Bounds.{head_bound}
 use Rattle.hp_pairs.specs.declared.branch.Branch.{Branch}
 use Rattle.hp_rules.specs.declared.ruled.Ruled.{Ruled}
 use Rattle.hp_rules.specs.declared.ruled.RuleErr.{RuleErr}
-use Rattle.hp_index_set.specs.Rules.{has_index_guards, is_idx, reads_at_variables}
+use Rattle.hp_index_set.specs.Rules.{has_index_guards, reads_at_variables}
+use Rattle.hp_flatten.specs.Sorts.{is_idx}
 use Rattle.hp_rules.specs.Rules.{application_place, array_clause, broken, first_word, form_over, function_place, has_level, is_array_application, is_case_atom, is_num_function, is_taken, monotone_place, placed, read_applications, read_at, read_case, read_clause, read_clauses, read_guard, read_head, read_level, read_nums, read_owned, read_rows, rows_of, rule_words, signature_of, with_array, with_branches, with_case, with_monotone}
 
 pub ok_is : {A E : Type 0} (x y : A) → ◌≡◌ {A = Result A E} (Ok x) (Ok y) → x ≡ y

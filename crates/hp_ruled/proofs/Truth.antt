@@ -32,7 +32,8 @@ use Rattle.hp_linear.specs.Literals.{compared, lin_literals, literals, one_liter
 use Rattle.hp_linear.specs.Wholes.{row_of}
 use Rattle.hp_linear.proofs.Truth.{literals_are_true_with_atoms}
 use Rattle.hp_linear.proofs.FitRows.{literals_are_fit}
-use Rattle.hp_rules.specs.Rules.{is_convex, num_rows, rows_of}
+use Rattle.hp_rules.specs.Rules.{num_rows, rows_of}
+use Rattle.hp_index_set.specs.Rules.{is_convex}
 use Rattle.hp_ruled.proofs.Reading.{ok_is}
 
 -- ---- words

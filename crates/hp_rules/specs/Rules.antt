@@ -7,8 +7,7 @@ use Rattle.std.specs.Str.{bytes_eq}
 use Rattle.hp_num.specs.Wide.{◌>>=◌}
 use Rattle.hp_tree.specs.declared.term.Term.{Term}
 use Rattle.hp_tree.specs.declared.problem.Atom.{Atom}
-use Rattle.hp_tree.specs.declared.problem.Cmp.{Cmp}
-use Rattle.hp_tree.specs.declared.problem.Cmp.TheVariants.{Lt, Ne}
+use Rattle.hp_tree.specs.declared.problem.Cmp.TheVariants.{Lt}
 use Rattle.hp_tree.specs.declared.problem.Sort.{Sort}
 use Rattle.hp_tree.specs.declared.problem.Sort.TheVariants.{Idx as idx}
 use Rattle.hp_tree.specs.Value.{Word}
@@ -32,11 +31,12 @@ use Rattle.hp_shapes.specs.Shapes.{form_of}
 use Rattle.hp_class.specs.Frame.{is_place}
 use Rattle.hp_flatten.specs.declared.application.Application.{Application}
 use Rattle.hp_flatten.specs.Applications.{atoms_applications, clause_applications}
-use Rattle.hp_flatten.specs.Flattening.{are_arguments, flattened, is_num}
+use Rattle.hp_flatten.specs.Flattening.{are_arguments, flattened}
+use Rattle.hp_flatten.specs.Sorts.{is_num}
 use Rattle.hp_cases.specs.declared.case.Bound.{Bound}
 use Rattle.hp_cases.specs.declared.case.Bound.TheVariants.{Low, High, Same}
 use Rattle.hp_cases.specs.Bounds.{head_bound}
-use Rattle.hp_index_set.specs.Rules.{has_index_guards, reads_at_variables}
+use Rattle.hp_index_set.specs.Rules.{has_index_guards, is_convex, reads_at_variables}
 use Rattle.hp_pairs.specs.declared.branch.Branch.{Branch}
 use Rattle.hp_pairs.specs.declared.branch.Given.{Given}
 use Rattle.hp_rules.specs.declared.ruled.ArrayClause.{ArrayClause}
@@ -236,11 +236,6 @@ read_head names ruled func args c (Some bound) = read_rows names ruled func args
 abbrev pub is_empty : {A : Type 0} → List A → Bool
 is_empty [] = true
 is_empty (x ∷ xs) = false
-
--- by any relation but `!=`
-abbrev pub is_convex : Cmp → Bool
-is_convex Ne = false
-is_convex _ = true
 
 -- a num atom without applications, by any relation but `!=`
 abbrev pub is_case_atom : NameList → FlatClause → Atom → Bool

@@ -9,9 +9,9 @@ ghost use Rattle.hp_rules.specs.Rules.{application_places, array_clause, has_lev
 use crate::copies::copy_clause;
 use crate::reading::broken;
 use crate::ruled::{ArrayClause, RuleErr, Ruled};
-use crate::shape::{application_place, is_num};
+use crate::shape::application_place;
 use hp_defs::{Names, Signature};
-use hp_flatten::Application;
+use hp_flatten::{Application, is_num};
 use hp_index_set::{has_index_guards, reads_at_variables};
 use hp_norm::FlatClause;
 use hp_num::List;

@@ -7,24 +7,25 @@ ghost use Rattle.hp_flatten.specs.Laws.{HasPlainConstants};
 ghost use Rattle.hp_defs.specs.Names.{NameList};
 ghost use Rattle.hp_norm.specs.Flat.{IsFlat};
 ghost use Rattle.hp_rules.specs.Answers.{RuledAs, RuledTo};
-ghost use Rattle.hp_rules.specs.Rules.{broken, is_case_atom, is_convex, is_empty, read_applications, read_at, read_case, read_clause, placed, read_guard, read_head, read_nums, read_owned, read_rows, rule_words, with_case, with_monotone};
+ghost use Rattle.hp_rules.specs.Rules.{broken, is_case_atom, is_empty, read_applications, read_at, read_case, read_clause, placed, read_guard, read_head, read_nums, read_owned, read_rows, rule_words, with_case, with_monotone};
 
 use crate::arrays::{are_array_applications, read_level};
 use crate::branches::with_case;
 use crate::rows::{rows_of, rule_words};
 use crate::ruled::{CaseClause, RuleErr, Ruled};
 use crate::shape::{
-    application_place, are_num_functions, is_any_taken, is_num, monotone_place, monotone_places,
+    application_place, are_num_functions, is_any_taken, monotone_place, monotone_places,
 };
 use hp_cases::{Bound, head_bound};
 use hp_defs::Names;
-use hp_flatten::{Application, are_arguments, clause_applications, flatten};
+use hp_flatten::{Application, are_arguments, clause_applications, flatten, is_num};
+use hp_index_set::is_convex;
 use hp_lit::{NumLit, Refusal, coefficient};
 use hp_names::NameIndex;
 use hp_norm::{FlatClause, clause_sort};
 use hp_num::List;
 use hp_pairs::Outside;
-use hp_tree::{Atom, Cmp};
+use hp_tree::Atom;
 use std::alloc::{AllocError, Global};
 
 /// What flat clauses are, in the order of the text: monotone clauses, those of cases, and those over arrays. The first clause
@@ -316,20 +317,6 @@ fn is_without(alloc: Global, atom: &Atom) -> Result<bool, AllocError>
     };
     let apps = clause_applications(alloc, &alone)?;
     Ok(apps.len() == 0)
-}
-
-/// Whether a relation is any but `!=`.
-fn is_convex(cmp: Cmp) -> bool
-    ensures { result ≡ is_convex cmp }
-{
-    match cmp {
-        Cmp::Le => true,
-        Cmp::Lt => true,
-        Cmp::Eq => true,
-        Cmp::Ne => false,
-        Cmp::Ge => true,
-        Cmp::Gt => true,
-    }
 }
 
 /// Rule 7: the head bounds the function. The clause is over the words of arguments.

@@ -3,11 +3,10 @@
 ghost use Rattle.std.specs.Prelude.{◌≡◌, ◌<◌, length, option_and_then, IfOk, IfSome};
 ghost use Rattle.std.specs.List.{list_all, list_any};
 ghost use Rattle.hp_class.specs.Frame.{is_place};
-ghost use Rattle.hp_flatten.specs.Flattening.{is_num};
 ghost use Rattle.hp_rules.specs.Rules.{application_place, are_num, first_word, form_over, function_place, is_num_function, is_taken, monotone_place, monotone_places};
 
 use hp_defs::Names;
-use hp_flatten::{Application, clause_applications};
+use hp_flatten::{Application, clause_applications, is_num};
 use hp_norm::FlatClause;
 use hp_num::{List, Text};
 use hp_shapes::form_of;
@@ -47,17 +46,6 @@ fn are_num(sorts: &[Sort]) -> bool
     ensures { result ≡ are_num sorts.now }
 {
     sorts.iter().all(|sort| is_num(*sort))
-}
-
-/// Whether a sort is num.
-pub fn is_num(sort: Sort) -> bool
-    ensures { result ≡ is_num sort }
-{
-    match sort {
-        Sort::Num => true,
-        Sort::Idx => false,
-        Sort::Ptr => false,
-    }
 }
 
 /// Whether an application is of a function with a clause of monotone shape, which is own in an earlier clause.

@@ -8,5 +8,6 @@ mod tables;
 mod values;
 
 pub use pairs::add_pair_lines;
-pub use steps::step_table;
+pub use steps::{first_value, step_table};
 pub use tables::{free_table, table};
+pub use values::args_of;

@@ -3,7 +3,8 @@ use Rattle.hp_tree.specs.declared.problem.Sort.{Sort}
 use Rattle.hp_tree.specs.declared.problem.Var.{Var}
 use Rattle.hp_terms.specs.Sorting.{sort_of}
 use Rattle.hp_norm.specs.Scopes.{clause_scope}
-use Rattle.hp_index_set.specs.Rules.{is_guard, is_idx, is_index_guard}
+use Rattle.hp_index_set.specs.Rules.{is_guard, is_index_guard}
+use Rattle.hp_flatten.specs.Sorts.{is_idx}
 use Rattle.hp_index_set.proofs.guards.is_guard.Goals as goal
 
 pub returns-then-is_idx : goal.returns-then-is_idx

@@ -9,7 +9,8 @@ use Rattle.hp_class.specs.Group.{plan_lines}
 use Rattle.hp_class.specs.Points.{function_lines}
 use Rattle.hp_tables.proofs.ClassLaws.{group_made, group_stopped}
 use Rattle.hp_index_set.specs.IndexSet.{index_set}
-use Rattle.hp_arrays.specs.Arrays.{FitsIndexes, arrays_plan, tuples_plan}
+use Rattle.hp_arrays.specs.Arrays.{arrays_plan}
+use Rattle.hp_tuple_lines.specs.TupleLines.{FitsOver, tuples_plan}
 use Rattle.hp_arrays.proofs.Fits.{arrays_clauses_fit, arrays_known}
 use Rattle.hp_array.proofs.arrays.ArraysLocalClass.lines.Goals as goal
 
@@ -22,8 +23,8 @@ add_tuple_lines-requires-clause-fit c =
     let names = c.args.g.now.names in
     let is : c.as_slice.result.now ≡ index_set group.own group.clauses names =
     c.as_slice.ensures ∙ c.in_ok-indexes.ensures ∙ (λ i. index_set (c.as_slice-own.ensures i) (c.as_slice-clauses.ensures i) names) in
-    subst (λ (cs : List FlatClause). All (FitsIndexes names c.as_slice.result.now) cs) (sym c.as_slice-clauses.ensures)
-    (subst (λ (xs : List Arg). All (FitsIndexes names xs) group.clauses) (sym is)
+    subst (λ (cs : List FlatClause). All (FitsOver names c.as_slice.result.now) cs) (sym c.as_slice-clauses.ensures)
+    (subst (λ (xs : List Arg). All (FitsOver names xs) group.clauses) (sym is)
     (arrays_clauses_fit names group.own group.words group.clauses c.requires.lent c.requires.sound.made c.requires.sound.names))
 
 pub returns-in_err-add_tuple_lines-clause-made : goal.returns-in_err-add_tuple_lines-clause-made

@@ -1,0 +1,3 @@
+mod SameTrees
+pub mod Sides
+pub mod Guarded
